@@ -1,0 +1,5 @@
+pub mod Counts
+pub mod Patterns
+pub mod Places
+pub mod Values
+pub mod formers

@@ -1,0 +1,89 @@
+ghost use Rattle.std.specs.Prelude.{◌≡◌, ◌≤◌, ℕ, List, OnOk, IfOk, IfErr};
+ghost use Rattle.esql_types.specs.Counts.{Rose};
+ghost use Rattle.esql_types.specs.Patterns.{IsReading, IsReadable, IsUnreadable};
+
+use crate::{Name, Noted, Seq};
+use regex::{Error as RegexError, Regex};
+use std::alloc::{AllocError, Global};
+use thiserror::Error;
+
+/// Why a pattern was not made.
+#[derive(Clone, Copy, Debug, Drop, Error)]
+pub enum PatternError {
+    #[error("the pattern is not readable")]
+    NotRead,
+    #[error("the pattern is too large to build")]
+    TooLarge,
+    #[error(transparent)]
+    Memory(#[from(alloc)] AllocError),
+}
+
+/// What builds regular expressions, in the syntax of the crate `regex`.
+pub trait Maker {
+    /// How many calls answered `TooLarge`; it never falls.
+    ghost refused: { Self → ℕ };
+
+    /// The pattern of the last call that answered `TooLarge`, empty before the first.
+    ghost last: { Self → List ℕ };
+
+    fn build(&mut self, alloc: Global, pattern: &str) -> Result<Regex, PatternError>
+        ensures reading { IfOk result (λ regex. IsReading pattern.now regex) }
+        ensures readable { OnOk result (IsReadable pattern.now) }
+        ensures not_read { result ≡ Err PatternError.NotRead → IsUnreadable pattern.now }
+        ensures rose { result ≡ Err PatternError.TooLarge → Rose (refused self.old) (refused self.new) }
+        ensures noted { result ≡ Err PatternError.TooLarge → last self.new ≡ pattern.now }
+        ensures count { refused self.old ≤ refused self.new }
+        ensures kept { (result ≡ Err PatternError.TooLarge → ⊥) → last self.new ≡ last self.old };
+}
+
+/// The maker that builds by `regex`.
+#[derive(Drop)]
+pub struct CrateMaker {
+    calls: u64,
+    refused: u64,
+    failing: Seq<u64>,
+    last: Noted,
+}
+
+impl CrateMaker {
+    /// A maker whose calls, numbered from 0, answer `TooLarge` where their number is in `failing`.
+    pub fn new(failing: Seq<u64>) -> CrateMaker {
+        CrateMaker {
+            calls: 0,
+            refused: 0,
+            failing,
+            last: Noted::new(),
+        }
+    }
+
+    fn refuse(&mut self, pattern: &str) -> PatternError
+        ensures too_large { result ≡ PatternError.TooLarge }
+        ensures rose { Rose self.old.refused self.new.refused }
+        ensures count { self.old.refused ≤ self.new.refused }
+        ensures noted { self.new.last.text ≡ pattern.now }
+    {
+        self.refused = self.refused.saturating_add(1);
+        self.last = self.last.then(&Name { text: pattern });
+        PatternError::TooLarge
+    }
+}
+
+impl Maker for CrateMaker {
+    ghost refused = { λ maker. maker.refused };
+
+    ghost last = { λ maker. maker.last.text };
+
+    fn build(&mut self, alloc: Global, pattern: &str) -> Result<Regex, PatternError> {
+        let call = self.calls;
+        self.calls = call.saturating_add(1);
+        if self.failing.as_slice().contains(&call) {
+            return Err(self.refuse(pattern));
+        }
+        match Regex::new(alloc, pattern) {
+            Ok(regex) => Ok(regex),
+            Err(RegexError::Syntax(_)) => Err(PatternError::NotRead),
+            Err(RegexError::OutOfMemory) => Err(PatternError::Memory(AllocError)),
+            Err(RegexError::CompiledTooBig | RegexError::Internal) => Err(self.refuse(pattern)),
+        }
+    }
+}
