@@ -23,7 +23,7 @@ pub use maker::{CrateMaker, Maker, PatternError};
 pub use names::{ColId, Column, NodeId};
 pub use noted::{Name, Noted};
 pub use ordering::compare_values;
-pub use places::{Place, Span, place_of};
+pub use places::{Place, Span, place_of, text_at};
 pub use seq::Seq;
 pub use text::Text;
 pub use value::{Kind, Value, ValueRef};

@@ -1,6 +1,7 @@
 ghost use Rattle.std.specs.Prelude.{◌≡◌, ◌<◌};
 ghost use Rattle.std.specs.Str.{IsCharBoundary};
 ghost use Rattle.esql_types.specs.Places.{line_at, column_at};
+ghost use Rattle.esql_types.specs.Spans.{SpanFits, text_at};
 
 /// A part of a query: byte offsets of its start and of its end, which is excluded.
 #[derive(Clone, Copy, Debug, PartialEq, Eq)]
@@ -36,4 +37,12 @@ pub fn place_of(text: &str, at: u32) -> Place
         }
     }
     Place { line, column }
+}
+
+/// The part of a text that a span covers.
+pub fn text_at(text: &str, span: Span) -> &str
+    requires { SpanFits text.now span }
+    ensures { result.now ≡ text_at text.now span }
+{
+    &text[span.from as usize..span.to as usize]
 }

@@ -1,0 +1,4 @@
+pub mod Files
+pub mod MemoryFiles
+pub mod MemorySinks
+pub mod Sinks

@@ -1,0 +1,26 @@
+-- What a sink in memory is, and how it answers a write.
+use Rattle.std.specs.Prelude.{◌≡◌, ℕ, ◌+◌, ◌-◌, ◌<◌, ◌≤◌, ◌==◌, ◌||◌, Bool, List, ◌++◌, length, take, min, nat_le, Option, Some, None, if◌then◌else◌, Result, Ok, Err}
+use Rattle.std.specs.List.{list_any}
+use Rattle.esql_io.specs.declared.files.Failed.{Failed}
+
+-- The bytes that were taken, the most bytes that are taken at all and in one write, the numbers of the writes that
+-- fail, how many writes were tried, and how many failed.
+pub record MemorySinkState : Type 0 where
+  pub taken : List ℕ
+  pub room : ℕ
+  pub piece : ℕ
+  pub failing : List ℕ
+  pub calls : ℕ
+  pub faults : ℕ
+
+-- the next write fails: its number is one that fails, or there is no room
+abbrev pub is_failing : MemorySinkState → Bool
+is_failing sink = list_any (λ call. call == sink.calls) sink.failing || nat_le sink.room (length sink.taken)
+
+-- how many of so many bytes the next write takes, where it does not fail
+abbrev pub taken_of : MemorySinkState → ℕ → ℕ
+taken_of sink count = min count (min sink.piece (sink.room - length sink.taken))
+
+-- the number after a count, which stops at the end of its type
+abbrev pub next_count : ℕ → ℕ
+next_count count = min (count + 1) 18446744073709551615
