@@ -1,4 +1,5 @@
 pub mod Counts
+pub mod Numbers
 pub mod Patterns
 pub mod Places
 pub mod Spans

@@ -1,0 +1,27 @@
+-- A query whose spans are parts of its text.
+use Rattle.std.specs.Prelude.{ℕ, List, All}
+use Rattle.esql_types.specs.Spans.{SpanFits}
+use Rattle.esql_ast.specs.declared.nodes.NodeAt.{NodeAt}
+use Rattle.esql_ast.specs.declared.query.Field.{Field}
+use Rattle.esql_ast.specs.declared.query.Query.{Query}
+use Rattle.esql_ast.specs.declared.query.Command.{Command}
+use Rattle.esql_ast.specs.declared.query.CommandKind.{CommandKind}
+use Rattle.esql_ast.specs.declared.query.CommandKind.TheVariants.{Eval}
+use Rattle.esql_ast.specs.declared.query.SourceCommand.{SourceCommand}
+use Rattle.esql_ast.specs.declared.query.SourceCommand.TheVariants.{OneRow}
+use Rattle.esql_ast.specs.Nodes.{nodes_of}
+
+abbrev pub FieldsFit : List ℕ → List Field → Type 0
+FieldsFit text fields = All (λ (field : Field). SpanFits text field.span) fields
+
+abbrev pub KindFits : List ℕ → CommandKind → Type 0
+KindFits text (Eval fields) = FieldsFit text fields
+
+abbrev pub SourceFits : List ℕ → SourceCommand → Type 0
+SourceFits text (OneRow node span fields) = FieldsFit text fields
+
+-- the spans of the nodes and of the fields are parts of the text
+pub record QueryFits (text : List ℕ) (query : Query) : Type 0 where
+  pub nodes : All (λ (place : NodeAt). SpanFits text place.span) (nodes_of query)
+  pub source : SourceFits text query.source
+  pub commands : All (λ (command : Command). KindFits text command.kind) query.commands

@@ -1,0 +1,5 @@
+pub mod Commands
+pub mod Kinds
+pub mod Refusals
+pub mod Shapes
+pub mod Tables

@@ -1,0 +1,16 @@
+-- How the answer to a query names a broken rule.
+use Rattle.std.specs.Prelude.{◌≡◌, List, Option, Some, Result, Err}
+use Rattle.esql_types.specs.declared.places.Span.{Span}
+use Rattle.esql_types.specs.declared.names.Column.{Column}
+use Rattle.query_semantics.specs.declared.table.AnswerError.{AnswerError}
+use Rattle.query_semantics.specs.declared.table.AnswerError.TheVariants.{UnknownColumn, Memory}
+
+-- the error names the unknown column, or memory was refused
+abbrev pub NamesUnknown : AnswerError → Option Span → Type 0
+NamesUnknown (UnknownColumn span) unknown = unknown ≡ Some span
+NamesUnknown (Memory error) unknown = Unit {0}
+
+-- the error names the first broken rule, or memory was refused
+abbrev pub NamesBroken : AnswerError → Result (List Column) Span → Type 0
+NamesBroken (UnknownColumn span) shape = shape ≡ Err span
+NamesBroken (Memory error) shape = Unit {0}

@@ -1,0 +1,94 @@
+ghost use Rattle.std.specs.Prelude.{◌≡◌, [], ◌∷◌, Ok, All, IfOk, IfErr};
+ghost use Rattle.esql_ast.specs.Fits.{QueryFits, FieldsFit, KindFits, SourceFits};
+ghost use Rattle.query_semantics.specs.Commands.{meaning_of, last_cut, run_fields, run_kind, run_source, run_command};
+ghost use Rattle.query_semantics.specs.Shapes.{shape_of, shape_of_fields, shape_of_kind, shape_of_source, shape_of_commands};
+ghost use Rattle.query_semantics.specs.Refusals.{NamesBroken};
+
+use crate::field::run_field;
+use crate::{AnswerError, Ran, Table};
+use esql_ast::{Command, CommandKind, Field, Query, SourceCommand};
+use esql_types::Seq;
+use std::alloc::{AllocError, Global};
+
+/// What a query means: its table with the failures of its nodes, or its first broken rule.
+pub fn meaning_of(alloc: Global, text: &str, query: &Query) -> Result<Ran, AnswerError>
+    requires { QueryFits text.now query.now }
+    ensures meant { IfOk result (λ ran. ran ≡ meaning_of text.now query.now) }
+    ensures shape { IfOk result (λ ran. shape_of text.now query.now ≡ Ok ran.table.columns) }
+    ensures broken { IfErr result (λ error. NamesBroken error (shape_of text.now query.now)) }
+{
+    let mut ran = run_source(alloc, text, &query.source)?;
+    for command in query.commands.as_slice() {
+        ran = run_kind(alloc, text, ran, &command.kind)?;
+    }
+    Ok(last_cut(ran))
+}
+
+fn run_source(alloc: Global, text: &str, source: &SourceCommand) -> Result<Ran, AnswerError>
+    requires { SourceFits text.now source.now }
+    ensures ran { IfOk result (λ ran. ran ≡ run_source text.now source.now) }
+    ensures shape { IfOk result (λ ran. shape_of_source text.now source.now ≡ Ok ran.table.columns) }
+    ensures broken { IfErr result (λ error. NamesBroken error (shape_of_source text.now source.now)) }
+{
+    let SourceCommand::OneRow { fields, .. } = source;
+    let ran = one_row(alloc).map_err(AnswerError::Memory)?;
+    run_fields(alloc, text, ran, fields.as_slice())
+}
+
+/// One row without columns.
+fn one_row(alloc: Global) -> Result<Ran, AllocError>
+    ensures { IfOk result (λ ran. ran ≡ record { table = record { columns = []; rows = [] ∷ [] }; failures = [] }) }
+{
+    let mut rows = Seq::new(alloc);
+    rows.push(Seq::new(alloc))?;
+    Ok(Ran {
+        table: Table {
+            columns: Seq::new(alloc),
+            rows,
+        },
+        failures: Seq::new(alloc),
+    })
+}
+
+fn run_kind(alloc: Global, text: &str, ran: Ran, kind: &CommandKind) -> Result<Ran, AnswerError>
+    requires { KindFits text.now kind.now }
+    ensures ran { IfOk result (λ new. new ≡ run_kind text.now kind.now ran) }
+    ensures shape { IfOk result (λ new. shape_of_kind text.now kind.now ran.table.columns ≡ Ok new.table.columns) }
+    ensures broken { IfErr result (λ error. NamesBroken error (shape_of_kind text.now kind.now ran.table.columns)) }
+{
+    match kind {
+        CommandKind::Eval { fields } => run_fields(alloc, text, ran, fields.as_slice()),
+    }
+}
+
+fn run_fields(alloc: Global, text: &str, ran: Ran, fields: &[Field]) -> Result<Ran, AnswerError>
+    requires { FieldsFit text.now fields.now }
+    ensures ran { IfOk result (λ new. new ≡ run_fields text.now fields.now ran) }
+    ensures shape { IfOk result (λ new. shape_of_fields text.now fields.now ran.table.columns ≡ Ok new.table.columns) }
+    ensures broken { IfErr result (λ error. NamesBroken error (shape_of_fields text.now fields.now ran.table.columns)) }
+{
+    let mut ran = ran;
+    for field in fields {
+        ran = run_field(alloc, text, ran, field)?;
+    }
+    Ok(ran)
+}
+
+/// The last cut of a query without a LIMIT: the first 1,000 rows.
+fn last_cut(ran: Ran) -> Ran
+    ensures { result ≡ last_cut ran }
+{
+    let Ran {
+        table: Table { columns, rows },
+        failures,
+    } = ran;
+    let mut rows = rows.into_vec();
+    rows.truncate(1000);
+    Ran {
+        table: Table {
+            columns,
+            rows: Seq::from_vec(rows),
+        },
+        failures,
+    }
+}
