@@ -2,6 +2,7 @@
 use Rattle.std.specs.Prelude.{ℕ, List, All}
 use Rattle.esql_types.specs.Spans.{SpanFits}
 use Rattle.esql_ast.specs.declared.nodes.NodeAt.{NodeAt}
+use Rattle.esql_ast.specs.declared.expr.Expr.{Expr}
 use Rattle.esql_ast.specs.declared.query.Field.{Field}
 use Rattle.esql_ast.specs.declared.query.Query.{Query}
 use Rattle.esql_ast.specs.declared.query.Command.{Command}
@@ -9,10 +10,18 @@ use Rattle.esql_ast.specs.declared.query.CommandKind.{CommandKind}
 use Rattle.esql_ast.specs.declared.query.CommandKind.TheVariants.{Eval}
 use Rattle.esql_ast.specs.declared.query.SourceCommand.{SourceCommand}
 use Rattle.esql_ast.specs.declared.query.SourceCommand.TheVariants.{OneRow}
-use Rattle.esql_ast.specs.Nodes.{nodes_of}
+use Rattle.esql_ast.specs.Nodes.{nodes_of, nodes_of_expr}
+
+-- the spans of an expression and of its parts are parts of the text
+abbrev pub ExprFits : List ℕ → Expr → Type 0
+ExprFits text expr = All (λ (place : NodeAt). SpanFits text place.span) (nodes_of_expr expr)
+
+pub record FieldFits (text : List ℕ) (field : Field) : Type 0 where
+  pub span : SpanFits text field.span
+  pub expr : ExprFits text field.expr
 
 abbrev pub FieldsFit : List ℕ → List Field → Type 0
-FieldsFit text fields = All (λ (field : Field). SpanFits text field.span) fields
+FieldsFit text fields = All (FieldFits text) fields
 
 abbrev pub KindFits : List ℕ → CommandKind → Type 0
 KindFits text (Eval fields) = FieldsFit text fields

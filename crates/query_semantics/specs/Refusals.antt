@@ -1,7 +1,8 @@
 -- How the answer to a query names a broken rule.
-use Rattle.std.specs.Prelude.{◌≡◌, List, Option, Some, Result, Err}
+use Rattle.std.specs.Prelude.{◌≡◌, ℕ, List, Option, Some, Result, Err}
 use Rattle.esql_types.specs.declared.places.Span.{Span}
 use Rattle.esql_types.specs.declared.names.Column.{Column}
+use Rattle.esql_types.specs.Spans.{SpanFits}
 use Rattle.query_semantics.specs.declared.table.AnswerError.{AnswerError}
 use Rattle.query_semantics.specs.declared.table.AnswerError.TheVariants.{UnknownColumn, Memory}
 
@@ -14,3 +15,8 @@ NamesUnknown (Memory error) unknown = Unit {0}
 abbrev pub NamesBroken : AnswerError → Result (List Column) Span → Type 0
 NamesBroken (UnknownColumn span) shape = shape ≡ Err span
 NamesBroken (Memory error) shape = Unit {0}
+
+-- the place that the error names is a part of the text
+abbrev pub ErrorFits : List ℕ → AnswerError → Type 0
+ErrorFits text (UnknownColumn span) = SpanFits text span
+ErrorFits text (Memory error) = Unit {0}

@@ -2,7 +2,8 @@ ghost use Rattle.std.specs.Prelude.{◌≡◌, [], ◌∷◌, Ok, All, IfOk, IfE
 ghost use Rattle.esql_ast.specs.Fits.{QueryFits, FieldsFit, KindFits, SourceFits};
 ghost use Rattle.query_semantics.specs.Commands.{meaning_of, last_cut, run_fields, run_kind, run_source, run_command};
 ghost use Rattle.query_semantics.specs.Shapes.{shape_of, shape_of_fields, shape_of_kind, shape_of_source, shape_of_commands};
-ghost use Rattle.query_semantics.specs.Refusals.{NamesBroken};
+ghost use Rattle.query_semantics.specs.Tables.{IsShaped};
+ghost use Rattle.query_semantics.specs.Refusals.{NamesBroken, ErrorFits};
 
 use crate::field::run_field;
 use crate::{AnswerError, Ran, Table};
@@ -15,7 +16,19 @@ pub fn meaning_of(alloc: Global, text: &str, query: &Query) -> Result<Ran, Answe
     requires { QueryFits text.now query.now }
     ensures meant { IfOk result (λ ran. ran ≡ meaning_of text.now query.now) }
     ensures shape { IfOk result (λ ran. shape_of text.now query.now ≡ Ok ran.table.columns) }
+    ensures shaped { IfOk result (λ ran. IsShaped ran.table) }
     ensures broken { IfErr result (λ error. NamesBroken error (shape_of text.now query.now)) }
+    ensures place { IfErr result (λ error. ErrorFits text.now error) }
+{
+    run_query(alloc, text, query)
+}
+
+fn run_query(alloc: Global, text: &str, query: &Query) -> Result<Ran, AnswerError>
+    requires { QueryFits text.now query.now }
+    ensures meant { IfOk result (λ ran. ran ≡ meaning_of text.now query.now) }
+    ensures shape { IfOk result (λ ran. shape_of text.now query.now ≡ Ok ran.table.columns) }
+    ensures broken { IfErr result (λ error. NamesBroken error (shape_of text.now query.now)) }
+    ensures place { IfErr result (λ error. ErrorFits text.now error) }
 {
     let mut ran = run_source(alloc, text, &query.source)?;
     for command in query.commands.as_slice() {
@@ -29,6 +42,7 @@ fn run_source(alloc: Global, text: &str, source: &SourceCommand) -> Result<Ran, 
     ensures ran { IfOk result (λ ran. ran ≡ run_source text.now source.now) }
     ensures shape { IfOk result (λ ran. shape_of_source text.now source.now ≡ Ok ran.table.columns) }
     ensures broken { IfErr result (λ error. NamesBroken error (shape_of_source text.now source.now)) }
+    ensures place { IfErr result (λ error. ErrorFits text.now error) }
 {
     let SourceCommand::OneRow { fields, .. } = source;
     let ran = one_row(alloc).map_err(AnswerError::Memory)?;
@@ -55,6 +69,7 @@ fn run_kind(alloc: Global, text: &str, ran: Ran, kind: &CommandKind) -> Result<R
     ensures ran { IfOk result (λ new. new ≡ run_kind text.now kind.now ran) }
     ensures shape { IfOk result (λ new. shape_of_kind text.now kind.now ran.table.columns ≡ Ok new.table.columns) }
     ensures broken { IfErr result (λ error. NamesBroken error (shape_of_kind text.now kind.now ran.table.columns)) }
+    ensures place { IfErr result (λ error. ErrorFits text.now error) }
 {
     match kind {
         CommandKind::Eval { fields } => run_fields(alloc, text, ran, fields.as_slice()),
@@ -66,6 +81,7 @@ fn run_fields(alloc: Global, text: &str, ran: Ran, fields: &[Field]) -> Result<R
     ensures ran { IfOk result (λ new. new ≡ run_fields text.now fields.now ran) }
     ensures shape { IfOk result (λ new. shape_of_fields text.now fields.now ran.table.columns ≡ Ok new.table.columns) }
     ensures broken { IfErr result (λ error. NamesBroken error (shape_of_fields text.now fields.now ran.table.columns)) }
+    ensures place { IfErr result (λ error. ErrorFits text.now error) }
 {
     let mut ran = ran;
     for field in fields {

@@ -1,5 +1,7 @@
-ghost use Rattle.std.specs.Prelude.{◌≡◌, not, true, false, Some, None, if◌then◌else◌, IfOk};
+ghost use Rattle.std.specs.Prelude.{◌≡◌, ℕ, List, not, true, false, Some, None, if◌then◌else◌, IfOk, IfSome};
 ghost use Rattle.std.specs.Str.{bytes_eq};
+ghost use Rattle.esql_types.specs.Spans.{SpanFits};
+ghost use Rattle.esql_ast.specs.Fits.{ExprFits};
 ghost use Rattle.query_semantics.specs.Tables.{put_column};
 ghost use Rattle.query_semantics.specs.Kinds.{kind_of, kind_of_value, kind_of_list, kind_at, kind_of_binary, kind_of_sum};
 ghost use Rattle.query_semantics.specs.Shapes.{has_column, unknown_in, first_of};
@@ -96,7 +98,8 @@ fn kind_of_sum(left: Kind, right: Kind) -> Kind
 
 /// The first column of an expression that is not there, in written order.
 pub(crate) fn unknown_in(expr: &Expr, columns: &[Column]) -> Option<Span>
-    ensures { result ≡ unknown_in expr.now columns.now }
+    ensures unknown { result ≡ unknown_in expr.now columns.now }
+    ensures place { (text : List ℕ) → ExprFits text expr.now → IfSome result (SpanFits text) }
 {
     match &expr.form {
         Form::Constant { .. } | Form::List { .. } => None,
@@ -109,7 +112,8 @@ pub(crate) fn unknown_in(expr: &Expr, columns: &[Column]) -> Option<Span>
 }
 
 fn unknown_name(name: &str, span: Span, columns: &[Column]) -> Option<Span>
-    ensures { result ≡ (if has_column columns.now name.now then None else Some span) }
+    ensures unknown { result ≡ (if has_column columns.now name.now then None else Some span) }
+    ensures place { (text : List ℕ) → SpanFits text span → IfSome result (SpanFits text) }
 {
     if has_column(columns, name) {
         None

@@ -1,9 +1,10 @@
 ghost use Rattle.std.specs.Prelude.{◌≡◌, None, IfOk, IfErr};
 ghost use Rattle.std.specs.Option.{option_copied};
 ghost use Rattle.esql_types.specs.Spans.{SpanFits};
+ghost use Rattle.esql_ast.specs.Fits.{FieldFits};
 ghost use Rattle.query_semantics.specs.Commands.{column_of, name_of_field, run_field};
 ghost use Rattle.query_semantics.specs.Shapes.{unknown_in};
-ghost use Rattle.query_semantics.specs.Refusals.{NamesUnknown};
+ghost use Rattle.query_semantics.specs.Refusals.{NamesUnknown, ErrorFits};
 
 use crate::columns::{kind_of, put_column, unknown_in};
 use crate::{AnswerError, Ran, Table};
@@ -19,10 +20,11 @@ pub(crate) fn run_field(
     ran: Ran,
     field: &Field,
 ) -> Result<Ran, AnswerError>
-    requires { SpanFits text.now field.now.span }
+    requires { FieldFits text.now field.now }
     ensures ran { IfOk result (λ new. new ≡ run_field text.now ran field.now) }
     ensures known { IfOk result (λ new. unknown_in field.now.expr ran.table.columns ≡ None) }
     ensures unknown { IfErr result (λ error. NamesUnknown error (unknown_in field.now.expr ran.table.columns)) }
+    ensures place { IfErr result (λ error. ErrorFits text.now error) }
 {
     let Ran { table, failures } = ran;
     match unknown_in(&field.expr, table.columns.as_slice()) {

@@ -1,7 +1,7 @@
 use Rattle.std.proofs.Common.{◌≡◌, take, drop, fold}
 use Rattle.query_semantics.specs.Commands.{run_command}
 use Rattle.query_semantics.specs.Shapes.{shape_of_commands}
-use Rattle.query_semantics.proofs.answer.meaning_of.Given as goal
+use Rattle.query_semantics.proofs.answer.run_query.Given as goal
 
 abbrev pub invariant-loop-command : goal.invariant-loop-command
 invariant-loop-command l = record {
