@@ -1,0 +1,4 @@
+pub mod Cells
+pub mod Messages
+pub mod Txt
+pub mod Warnings

@@ -1,0 +1,6 @@
+mod Divisions
+mod Lists
+mod OneDivision
+mod Runs
+mod Slices
+mod Spans
