@@ -1,5 +1,5 @@
 -- What files hold, where they tell it, and what is left to read of the file that is open.
-use Rattle.std.specs.Prelude.{◌≡◌, ℕ, ◌≤◌, ◌<◌, Bool, List, [], ◌++◌, take, drop, length, Option, Some, None, option_map, unwrap_or, is_some, IfSome}
+use Rattle.std.specs.Prelude.{◌≡◌, ℕ, ◌≤◌, ◌<◌, Bool, List, [], ◌++◌, take, drop, length, Option, option_map, unwrap_or, is_some, IfSome}
 
 -- The bytes of each name that is held: a finite map, or None where the files do not tell what they hold.
 abbrev pub Held : Type 0

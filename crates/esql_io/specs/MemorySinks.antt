@@ -1,7 +1,6 @@
 -- What a sink in memory is, and how it answers a write.
-use Rattle.std.specs.Prelude.{◌≡◌, ℕ, ◌+◌, ◌-◌, ◌<◌, ◌≤◌, ◌==◌, ◌||◌, Bool, List, ◌++◌, length, take, min, nat_le, Option, Some, None, if◌then◌else◌, Result, Ok, Err}
+use Rattle.std.specs.Prelude.{ℕ, ◌+◌, ◌-◌, ◌==◌, ◌||◌, Bool, List, length, min, nat_le}
 use Rattle.std.specs.List.{list_any}
-use Rattle.esql_io.specs.declared.files.Failed.{Failed}
 
 -- The bytes that were taken, the most bytes that are taken at all and in one write, the numbers of the writes that
 -- fail, how many writes were tried, and how many failed.

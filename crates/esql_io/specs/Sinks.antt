@@ -1,5 +1,5 @@
 -- What a sink has taken, where it tells that.
-use Rattle.std.specs.Prelude.{◌≡◌, ℕ, ◌≤◌, List, ◌++◌, take, length, Option, Some, None, option_map}
+use Rattle.std.specs.Prelude.{◌≡◌, ℕ, List, ◌++◌, Option, option_map}
 
 -- The bytes that a sink took with these after them. A sink that does not tell what it took still does not tell it.
 abbrev pub with_more : Option (List ℕ) → List ℕ → Option (List ℕ)

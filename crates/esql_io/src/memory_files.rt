@@ -166,7 +166,22 @@ impl Files for MemoryFiles {
 
     ghost failed = { λ m. m.failed };
 
-    fn open(&mut self, name: &str) -> Result<bool, Failed> {
+    /// Fails exactly where its number is one that fails.
+    fn open(&mut self, name: &str) -> Result<bool, Failed>
+        ensures found { IfOk result (IsFound (Some (held_in self.old.files)) name.now) }
+        ensures opened { IfOk result (λ found. self.new.opened ≡ (if found then Some name.now else None)) }
+        ensures whole { IfOk result (λ found. Some self.new.left ≡ whole_of (Some (held_in self.old.files)) name.now) }
+        ensures kept { OnOk result (self.new.failed ≡ self.old.failed) }
+        ensures rose { OnErr result (Rose self.old.faults self.new.faults) }
+        ensures closed { OnErr result (self.new.opened ≡ None) }
+        ensures nothing { OnErr result (Some self.new.left ≡ nothing_left (Some (held_in self.old.files))) }
+        ensures name { OnErr result (self.new.failed ≡ name.now) }
+        ensures holds { Some (held_in self.new.files) ≡ Some (held_in self.old.files) }
+        ensures faults { self.old.faults ≤ self.new.faults }
+        ensures failing { OnErr result (is_failing self.old ≡ true) }
+        ensures working { OnOk result (is_failing self.old ≡ false) }
+        ensures numbered { self.new.calls ≡ next_count self.old.calls }
+    {
         let fails = self.fails();
         self.calls = self.calls.saturating_add(1);
         self.open = None;
@@ -184,7 +199,24 @@ impl Files for MemoryFiles {
         }
     }
 
-    fn read(&mut self, into: &mut [u8]) -> Result<usize, Failed> {
+    /// Fails exactly where its number is one that fails; else it gives as many bytes as a piece and the file allow.
+    fn read(&mut self, into: &mut [u8]) -> Result<usize, Failed>
+        ensures count { IfOk result (λ count. count ≤ length into.old) }
+        ensures next { IfOk result (λ count. IfSome (Some self.old.left) (λ rest. ReadsNext rest count into.old into.new)) }
+        ensures moved { IfOk result (λ count. Some self.new.left ≡ option_map (drop count) (Some self.old.left)) }
+        ensures same { OnOk result (self.new.opened ≡ self.old.opened) }
+        ensures kept { OnOk result (self.new.failed ≡ self.old.failed) }
+        ensures rose { OnErr result (Rose self.old.faults self.new.faults) }
+        ensures closed { OnErr result (self.new.opened ≡ None) }
+        ensures nothing { OnErr result (Some self.new.left ≡ nothing_left (Some (held_in self.old.files))) }
+        ensures name { OnErr result (IfSome self.old.opened (λ name. self.new.failed ≡ name)) }
+        ensures holds { Some (held_in self.new.files) ≡ Some (held_in self.old.files) }
+        ensures faults { self.old.faults ≤ self.new.faults }
+        ensures failing { OnErr result (is_failing self.old ≡ true) }
+        ensures exact { IfOk result (λ count.
+            (is_failing self.old ≡ false) × (count ≡ read_count self.old (length into.old))) }
+        ensures numbered { self.new.calls ≡ next_count self.old.calls }
+    {
         let fails = self.fails();
         self.calls = self.calls.saturating_add(1);
         if fails {

@@ -1,6 +1,5 @@
 -- What a refusal of `regex` says of the pattern.
-use Rattle.std.proofs.Common.{◌≡◌, ◌≢◌, ℕ, List, inl, inr, ⊎_elim}
-use Rattle.std.specs.Option.{IfSome}
+use Rattle.std.proofs.Common.{◌≢◌, ℕ, List, inl, inr, ⊎_elim}
 use Rattle.regex_syntax.specs.Verdict.{default_config, Refuses}
 use Rattle.regex_syntax.specs.declared.error.ErrorKind.{ErrorKind}
 use Rattle.regex_syntax.specs.declared.error.ErrorKind.TheVariants.{OutOfMemory}

@@ -1,5 +1,5 @@
 -- The ranges of numbers.
-use Rattle.std.specs.Prelude.{ℕ, ℤ, pos, negsuc, Bool, nat_lt}
+use Rattle.std.specs.Prelude.{ℤ, pos, negsuc, Bool, nat_lt}
 
 -- the number is an integer of 32 bits
 abbrev pub fits_integer : ℤ → Bool

@@ -1,5 +1,5 @@
 -- The first of two broken rules.
-use Rattle.std.proofs.Common.{List, ℕ, Option, Some, None, IfSome}
+use Rattle.std.proofs.Common.{Option, Some, None, IfSome}
 use Rattle.esql_types.specs.declared.places.Span.{Span}
 use Rattle.query_semantics.specs.Shapes.{first_of}
 

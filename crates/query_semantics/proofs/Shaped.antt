@@ -1,5 +1,5 @@
 -- Commands keep the rows of a table in the shape of its columns.
-use Rattle.std.proofs.Common.{◌≡◌, ℕ, Bool, true, false, not, cond, List, [], ◌∷◌, ◌++◌, map, filter, fold, take, All, Result, Ok, Err, IfOk, refl, ap, sym, subst, ◌∙◌}
+use Rattle.std.proofs.Common.{◌≡◌, ℕ, Bool, true, false, not, cond, List, [], ◌∷◌, ◌++◌, map, filter, fold, Result, Ok, Err, IfOk, refl, ap, sym, subst, ◌∙◌}
 use Rattle.std.specs.Str.{bytes_eq}
 use Rattle.std.proofs.lemmas.List.{map-append}
 use Rattle.std.proofs.lemmas.List.Elements.{All-nil, All-cons, All-map, All-take}
@@ -14,13 +14,12 @@ use Rattle.esql_ast.specs.declared.query.CommandKind.TheVariants.{Eval}
 use Rattle.esql_ast.specs.declared.query.SourceCommand.{SourceCommand}
 use Rattle.esql_ast.specs.declared.query.SourceCommand.TheVariants.{OneRow}
 use Rattle.row_semantics.specs.Rows.{Row, put}
-use Rattle.row_semantics.specs.Values.{value_of}
 use Rattle.row_semantics.specs.declared.row.NamedCell.{NamedCell}
 use Rattle.query_semantics.specs.declared.table.Table.{Table}
 use Rattle.query_semantics.specs.declared.table.AnswerError.{AnswerError}
 use Rattle.query_semantics.specs.declared.table.Ran.{Ran}
 use Rattle.query_semantics.specs.Tables.{IsShaped, names_in, names_of, put_column}
-use Rattle.query_semantics.specs.Commands.{run_field, run_fields, run_kind, run_command, run_source, last_cut, meaning_of, table_with_field, row_with_field, name_of_field}
+use Rattle.query_semantics.specs.Commands.{run_field, run_fields, run_kind, run_command, run_source, meaning_of, table_with_field, row_with_field, name_of_field}
 
 -- the test of what a function gives may be made before or after it
 pub map-filter : {A B : Type 0} (f : A → B) (test : B → Bool) (xs : List A) → map f (filter (λ x. test (f x)) xs) ≡ filter test (map f xs)
@@ -48,9 +47,9 @@ IsShaped-field text field table shaped =
     let after : List (List ℕ) = names_of (table_with_field text field table).columns in
     All-map (λ (row : Row). names_in row ≡ after) (row_with_field text field) table.rows
     (λ k d within.
-        names_in-put _ (name_of_field text field) _
-        ∙ ap (λ names. put_name names (name_of_field text field)) (shaped k d within)
-        ∙ sym (names_of-put table.columns (name_of_field text field) _))
+    names_in-put _ (name_of_field text field) _
+    ∙ ap (λ names. put_name names (name_of_field text field)) (shaped k d within)
+    ∙ sym (names_of-put table.columns (name_of_field text field) _))
 
 IsShaped-fields : (text : List ℕ) (fields : List Field) (ran : Ran) → IsShaped ran.table → IsShaped (run_fields text fields ran).table
 IsShaped-fields text [] ran shaped = shaped

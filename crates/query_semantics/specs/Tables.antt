@@ -1,5 +1,5 @@
 -- Tables, as a reader of a query sees them.
-use Rattle.std.specs.Prelude.{◌≡◌, ℕ, Bool, not, List, [], ◌∷◌, ◌++◌, filter, map, All}
+use Rattle.std.specs.Prelude.{◌≡◌, ℕ, not, List, [], ◌∷◌, ◌++◌, filter, map, All}
 use Rattle.std.specs.Str.{bytes_eq}
 use Rattle.esql_types.specs.declared.value.Value.{Value}
 use Rattle.esql_types.specs.declared.value.Kind.{Kind}

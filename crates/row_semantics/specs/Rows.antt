@@ -1,5 +1,5 @@
 -- Rows, as a reader of a query sees them.
-use Rattle.std.specs.Prelude.{ℕ, Bool, not, List, [], ◌∷◌, ◌++◌, filter, if◌then◌else◌}
+use Rattle.std.specs.Prelude.{ℕ, not, List, [], ◌∷◌, ◌++◌, filter, if◌then◌else◌}
 use Rattle.std.specs.Str.{bytes_eq}
 use Rattle.esql_types.specs.declared.value.Value.{Value}
 use Rattle.row_semantics.specs.declared.row.NamedCell.{NamedCell}

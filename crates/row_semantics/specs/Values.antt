@@ -1,5 +1,5 @@
 -- The value of an expression on a row, with its failures.
-use Rattle.std.specs.Prelude.{ℕ, ℤ, ◌+ℤ◌, Bool, List, [], ◌∷◌, ◌++◌, if◌then◌else◌}
+use Rattle.std.specs.Prelude.{ℤ, ◌+ℤ◌, List, [], ◌∷◌, ◌++◌, if◌then◌else◌}
 use Rattle.esql_types.specs.declared.value.Value.{Value}
 use Rattle.esql_types.specs.declared.value.Value.TheVariants.{Int, Long}
 use Rattle.esql_types.specs.declared.cause.Cause.{Cause}

@@ -1,4 +1,4 @@
-use Rattle.std.proofs.Common.{length, arith, length-drop, ap}
+use Rattle.std.proofs.Common.{arith}
 use Rattle.esql_io.proofs.Pieces.{took_more}
 use Rattle.esql_io.proofs.sink.write_whole.Goals as goal
 
