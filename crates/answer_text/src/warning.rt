@@ -146,11 +146,13 @@ fn is_same(left: &Cause, right: &Cause) -> bool
         | (Cause::LongOverflow, Cause::LongOverflow)
         | (Cause::ByZero, Cause::ByZero)
         | (Cause::EmptyDelimiter, Cause::EmptyDelimiter) => true,
-        (Cause::CannotParse { text: left }, Cause::CannotParse { text: right }) => left.as_str()
-            == right.as_str(),
+        (Cause::CannotParse { text: left }, Cause::CannotParse { text: right }) => {
+            left.as_str() == right.as_str()
+        }
         (Cause::OutOfInteger { value: left }, Cause::OutOfInteger { value: right })
-        | (Cause::NegativeLength { value: left }, Cause::NegativeLength { value: right }) => left
-            == right,
+        | (Cause::NegativeLength { value: left }, Cause::NegativeLength { value: right }) => {
+            left == right
+        }
         _ => false,
     }
 }
