@@ -1,0 +1,9 @@
+pub mod Complete
+pub mod Fits
+pub mod Meets
+pub mod Nodes
+pub mod Numbers
+pub mod Places
+pub mod Sizes
+pub mod Sound
+pub mod Unique
