@@ -1,0 +1,4 @@
+mod Ends
+mod Queries
+mod RowCells
+mod Words

@@ -1,0 +1,5 @@
+pub mod Answers
+pub mod Codes
+pub mod Made
+pub mod Outcome
+pub mod Writing
