@@ -1,0 +1,11 @@
+mod Wholes
+mod Spelling
+mod Documented
+mod Members
+mod Joins
+mod Properties
+mod Takings
+mod Cuts
+mod Loads
+mod Shaped
+mod Loadable

@@ -1,0 +1,9 @@
+pub mod Accepted
+pub mod Documents
+pub mod Gathering
+pub mod Joining
+pub mod Loading
+pub mod Mappings
+pub mod Rows
+pub mod Shapes
+pub mod Whole
