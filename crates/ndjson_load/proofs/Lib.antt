@@ -9,3 +9,4 @@ mod Cuts
 mod Loads
 mod Shaped
 mod Loadable
+mod LineLaws
