@@ -1,11 +1,11 @@
 -- The line feeds of a table in the layout `txt`.
-use Rattle.std.proofs.Common.{◌≡◌, ◌≢◌, ℕ, zero, suc, lit≤, ltb, ◌+◌, ◌-◌, ◌*◌, ◌/◌, ◌%◌, ◌<◌, ◌≤◌, ◌==◌, nat_lt, Bool, true, false, cond, List, [], ◌∷◌, ◌++◌, map, length, replicate, count_by, refl, ap, sym, ◌∙◌, arith, codes, sum_by}
+use Rattle.std.proofs.Common.{◌≡◌, ◌≢◌, ℕ, zero, suc, lit≤, ltb, ◌+◌, ◌-◌, ◌/◌, ◌%◌, ◌≤◌, ◌==◌, nat_lt, Bool, true, false, cond, List, [], ◌∷◌, ◌++◌, map, length, replicate, count_by, refl, ap, arith, codes}
 use Rattle.std.specs.Char.{digit_char}
-use Rattle.std.specs.List.{flat_map, zip, join_by, AllByRecursion}
+use Rattle.std.specs.List.{flat_map, zip, AllByRecursion}
 use Rattle.std.specs.Str.{chars}
 use Rattle.std.proofs.Math.Utf8.{encode}
 use Rattle.std.proofs.lemmas.Bool.{ne_eqb, ltb-false}
-use Rattle.std.proofs.lemmas.List.Sums.{sum_by-append, sum_by-cons}
+use Rattle.std.proofs.lemmas.List.Sums.{sum_by-append}
 use Rattle.esql_types.specs.declared.names.Column.{Column}
 use Rattle.esql_types.specs.declared.value.Value.{Value}
 use Rattle.answer_text.specs.Cells.{cell_text}

@@ -1,4 +1,4 @@
-ghost use Rattle.std.specs.Prelude.{All, IfOk, IfSome};
+ghost use Rattle.std.specs.Prelude.{All, IfOk, IfSome, OnOk};
 ghost use Rattle.esql_types.specs.Spans.{SpanFits};
 
 use super::*;
@@ -18,6 +18,22 @@ fn span_in(text: &str, from: u32, to: u32) -> Option<Span>
     }
 }
 
+fn push_node(
+    nodes: &mut Seq<NodeAt>,
+    _text: &str,
+    node: NodeId,
+    span: Option<Span>,
+) -> Result<(), AllocError>
+    requires nodes { All (λ n. SpanFits _text.now n.span) nodes.old }
+    requires span { IfSome span (λ s. SpanFits _text.now s) }
+    ensures { OnOk result (All (λ n. SpanFits _text.now n.span) nodes.new) }
+{
+    match span {
+        Some(span) => nodes.push(NodeAt { node, span }),
+        None => Ok(()),
+    }
+}
+
 // The nodes of these spans, numbered from 0.
 fn nodes_at(alloc: Global, text: &str, spans: &[(u32, u32)]) -> Result<Seq<NodeAt>, AllocError>
     ensures { IfOk result (λ nodes. All (λ n. SpanFits text.now n.span) nodes) }
@@ -25,12 +41,7 @@ fn nodes_at(alloc: Global, text: &str, spans: &[(u32, u32)]) -> Result<Seq<NodeA
     let mut nodes = Seq::new(alloc);
     let mut node = 0u32;
     for (from, to) in spans {
-        if let Some(span) = span_in(text, *from, *to) {
-            nodes.push(NodeAt {
-                node: NodeId(node),
-                span,
-            })?;
-        }
+        push_node(&mut nodes, text, NodeId(node), span_in(text, *from, *to))?;
         node = node.saturating_add(1);
     }
     Ok(nodes)
