@@ -1,6 +1,12 @@
+mod Bodies
+mod Closings
 mod Divisions
 mod Lists
 mod OneDivision
-mod Runs
+mod Opened
+mod Pieces
+mod Readings
+mod SliceEnds
 mod Slices
 mod Spans
+mod Texts

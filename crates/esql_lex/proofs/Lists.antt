@@ -76,3 +76,14 @@ value_past digits i d value bound l v h =
     let least : value_of (take (i + 1) digits) ≤ fold (λ v c. v * 10 + (c - 48)) (value_of (take (i + 1) digits)) (drop (i + 1) digits) =
     grows (drop (i + 1) digits) (value_of (take (i + 1) digits)) in
     omega (arith, next, whole, least, h, v)
+
+-- a run at the front is no longer than the longest
+run_bound_at : (p : ℕ → Bool) (b : Bool) (q : Bool) (k n : ℕ) → (b && q) ≡ true → (q ≡ true → k ≤ n) → 1 + k ≤ cond b (1 + n) 0
+run_bound_at p true q k n e h = let l : k ≤ n = h e in omega (arith, l)
+run_bound_at p false q k n e h = absurd (false≢true e)
+
+pub run_bound : (p : ℕ → Bool) (ys tail : List ℕ) → list_all p ys ≡ true → length ys ≤ prefix_len p (ys ++ tail)
+run_bound p [] tail e = omega arith
+run_bound p (y ∷ ys) tail e =
+    let l : 1 + length ys ≤ prefix_len p (y ∷ (ys ++ tail)) = run_bound_at p (p y) (list_all p ys) (length ys) (prefix_len p (ys ++ tail)) e (run_bound p ys tail) in
+    omega (arith, l)

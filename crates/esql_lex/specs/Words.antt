@@ -4,7 +4,7 @@ use Rattle.std.specs.Str.{str_eq_ignore_ascii_case}
 use Rattle.esql_lex.specs.declared.token.Reserved.{Reserved}
 use Rattle.esql_lex.specs.declared.token.Reserved.TheVariants.{And, Or, Not, In, Is, Like, Rlike, Null, True, False, Asc, Desc, Nulls, First, Last, By, As, On, With}
 use Rattle.esql_lex.specs.declared.token.Sign.{Sign}
-use Rattle.esql_lex.specs.declared.token.Sign.TheVariants.{Bar, Comma, OpenParen, CloseParen, OpenBracket, CloseBracket, Plus, Minus, Star, Percent, Equal, NotEqual, Less, LessEqual, Greater, GreaterEqual, Assign, Cast}
+use Rattle.esql_lex.specs.declared.token.Sign.TheVariants.{Bar, Comma, OpenParen, CloseParen, OpenBracket, CloseBracket, Plus, Minus, Star, Slash, Percent, Equal, NotEqual, Less, LessEqual, Greater, GreaterEqual, Assign, Cast}
 
 -- a reserved word in small letters
 abbrev pub spelling_of : Reserved → List ℕ
@@ -40,7 +40,7 @@ is_word slice word = str_eq_ignore_ascii_case slice (spelling_of word)
 unfoldable pub reserved_of : List ℕ → Option Reserved
 reserved_of slice = find (is_word slice) reserved_words
 
--- the sign of one character: | , ( ) [ ] + - * % < > =
+-- the sign of one character: | , ( ) [ ] + - * / % < > =
 unfoldable pub short_sign : ℕ → Option Sign
 short_sign c =
     if c == 124 then Some Bar
@@ -52,11 +52,12 @@ short_sign c =
     else (if c == 43 then Some Plus
     else (if c == 45 then Some Minus
     else (if c == 42 then Some Star
+    else (if c == 47 then Some Slash
     else (if c == 37 then Some Percent
     else (if c == 60 then Some Less
     else (if c == 62 then Some Greater
     else (if c == 61 then Some Assign
-    else None))))))))))))
+    else None)))))))))))))
 
 -- the sign of two characters: == != <= >= ::
 unfoldable pub long_sign : ℕ → ℕ → Option Sign
@@ -73,3 +74,7 @@ abbrev pub long_sign_at : List ℕ → Option Sign
 long_sign_at [] = None
 long_sign_at (c ∷ []) = None
 long_sign_at (c ∷ d ∷ rest) = long_sign c d
+
+-- the signs that every mode has: | ,
+unfoldable pub separator : ℕ → Option Sign
+separator c = if c == 124 then Some Bar else (if c == 44 then Some Comma else None)

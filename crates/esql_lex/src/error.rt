@@ -19,6 +19,7 @@ pub enum LexError {
     /// A number is above 9223372036854775807.
     #[error("the number is too large")]
     WideNumber { at: u32 },
+    /// Memory was refused.
     #[error(transparent)]
     Memory(AllocError),
 }

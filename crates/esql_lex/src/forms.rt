@@ -1,48 +1,19 @@
-ghost use Rattle.std.specs.Prelude.{◌≡◌, ℕ, ◌+◌, ◌-◌, ◌*◌, ◌^◌, ◌<◌, ◌≤◌, List, length, drop, take, slice_index, pos, true, false, IsTrue, MatchOption, MatchResult, IfSome};
+ghost use Rattle.std.specs.Prelude.{◌≡◌, ◌≢◌, ℕ, ◌+◌, ◌-◌, ◌*◌, ◌^◌, ◌<◌, ◌≤◌, List, length, drop, take, slice_index, pos, true, false, None, IsTrue, MatchOption, MatchResult, IfSome};
 ghost use Rattle.std.specs.List.{prefix_len, list_all};
 ghost use Rattle.std.specs.Char.{is_ascii_digit};
 ghost use Rattle.esql_lex.specs.declared.token.TokenKind.TheVariants.{Number};
-ghost use Rattle.esql_lex.specs.Words.{reserved_of, is_word, short_sign, long_sign, long_sign_at};
-ghost use Rattle.esql_lex.specs.Forms.{begins_name, continues_name, is_white, word_or_name, value_of};
+ghost use Rattle.esql_lex.specs.declared.mode.Mode.TheVariants.{Plain, Source, Pattern};
+ghost use Rattle.esql_lex.specs.Words.{reserved_of, is_word, short_sign, long_sign, long_sign_at, separator};
+ghost use Rattle.esql_lex.specs.Gaps.{begins_comment, begins_block, piece_len};
+ghost use Rattle.esql_lex.specs.Forms.{begins_name, word_or_name, value_of, begins_source, continues_source, is_in_pattern};
 ghost use Rattle.esql_lex.specs.Tokens.{BeginsWith, Reads};
 
+use crate::body::{Body, begins_name};
+use crate::gaps::begins_block;
+use crate::mode::Mode;
+use crate::quotes::{quoted_at, text_at};
 use crate::{LexError, Reserved, Sign, Token, TokenKind};
 use esql_types::Span;
-
-fn is_white(byte: u8) -> bool
-    ensures { result ≡ is_white byte }
-{
-    matches!(byte, b' ' | b'\t' | b'\r' | b'\n')
-}
-
-fn begins_name(byte: u8) -> bool
-    ensures { result ≡ begins_name byte }
-{
-    byte.is_ascii_alphabetic() || byte == b'_' || byte == b'@'
-}
-
-fn continues_name(byte: u8) -> bool
-    ensures { result ≡ continues_name byte }
-{
-    byte.is_ascii_alphanumeric() || byte == b'_'
-}
-
-// How long the gap is at the front.
-pub(crate) fn gap_len(text: &[u8]) -> usize
-    ensures value { result ≡ prefix_len is_white text.now }
-    ensures within { result ≤ length text.now }
-{
-    text.iter().take_while(|byte| is_white(**byte)).count()
-}
-
-fn name_len(text: &[u8]) -> usize
-    ensures value { result ≡ prefix_len continues_name text.now }
-    ensures within { result ≤ length text.now }
-{
-    text.iter()
-        .take_while(|byte| continues_name(**byte))
-        .count()
-}
 
 fn digits_len(text: &[u8]) -> usize
     ensures value { result ≡ prefix_len is_ascii_digit text.now }
@@ -118,6 +89,7 @@ fn short_sign(byte: u8) -> Option<Sign>
         b'+' => Sign::Plus,
         b'-' => Sign::Minus,
         b'*' => Sign::Star,
+        b'/' => Sign::Slash,
         b'%' => Sign::Percent,
         b'<' => Sign::Less,
         b'>' => Sign::Greater,
@@ -150,7 +122,7 @@ fn long_sign_at(text: &[u8]) -> Option<Sign>
     }
 }
 
-fn token(kind: TokenKind, at: u32, len: usize) -> Token
+pub(crate) fn token(kind: TokenKind, at: u32, len: usize) -> Token
     requires { at + len ≤ 65536 }
     ensures { result ≡ record { kind = kind; span = record { from = at; to = at + len } } }
 {
@@ -165,22 +137,24 @@ fn token(kind: TokenKind, at: u32, len: usize) -> Token
 
 fn word_at(text: &[u8], at: u32) -> Token
     requires some { 0 < length text.now }
+    requires no_comment { begins_comment text.now ≡ false }
     requires begins { begins_name (slice_index text.now 0) ≡ true }
     requires short { at + length text.now ≤ 65536 }
-    ensures { BeginsWith at text.now result (drop (result.span.to - at) text.now) }
+    ensures { BeginsWith Plain at text.now result (drop (result.span.to - at) text.now) }
 {
     let (_, after) = text.split_at(1);
-    let len = 1 + name_len(after);
+    let len = 1 + Body::OfName.len(after);
     let (slice, _) = text.split_at(len);
     token(word_or_name(slice), at, len)
 }
 
 fn number_at(text: &[u8], at: u32) -> Result<Token, LexError>
     requires some { 0 < length text.now }
+    requires no_comment { begins_comment text.now ≡ false }
     requires no_name { begins_name (slice_index text.now 0) ≡ false }
     requires begins { is_ascii_digit (slice_index text.now 0) ≡ true }
     requires short { at + length text.now ≤ 65536 }
-    ensures { Reads at text.now result }
+    ensures { Reads Plain at text.now result }
 {
     let len = digits_len(text);
     let (slice, _) = text.split_at(len);
@@ -192,10 +166,13 @@ fn number_at(text: &[u8], at: u32) -> Result<Token, LexError>
 
 fn sign_at(text: &[u8], at: u32) -> Result<Token, LexError>
     requires some { 0 < length text.now }
+    requires no_comment { begins_comment text.now ≡ false }
     requires no_name { begins_name (slice_index text.now 0) ≡ false }
     requires no_digit { is_ascii_digit (slice_index text.now 0) ≡ false }
+    requires no_backtick { slice_index text.now 0 ≢ 96 }
+    requires no_quote { slice_index text.now 0 ≢ 34 }
     requires short { at + length text.now ≤ 65536 }
-    ensures { Reads at text.now result }
+    ensures { Reads Plain at text.now result }
 {
     match long_sign_at(text) {
         Some(sign) => Ok(token(TokenKind::Sign { sign }, at, 2)),
@@ -206,17 +183,113 @@ fn sign_at(text: &[u8], at: u32) -> Result<Token, LexError>
     }
 }
 
-// The token that stands here, or the fault.
-pub(crate) fn token_at(text: &[u8], at: u32) -> Result<Token, LexError>
+fn plain_at(text: &[u8], at: u32) -> Result<Token, LexError>
     requires some { 0 < length text.now }
+    requires no_comment { begins_comment text.now ≡ false }
     requires short { at + length text.now ≤ 65536 }
-    ensures { Reads at text.now result }
+    ensures { Reads Plain at text.now result }
 {
     if begins_name(text[0]) {
         Ok(word_at(text, at))
     } else if text[0].is_ascii_digit() {
         number_at(text, at)
+    } else if text[0] == b'`' {
+        quoted_at(Mode::Plain, text, at)
+    } else if text[0] == b'"' {
+        text_at(text, at)
     } else {
         sign_at(text, at)
+    }
+}
+
+fn begins_source(byte: u8) -> bool
+    ensures { result ≡ begins_source byte }
+{
+    byte.is_ascii_alphanumeric() || byte == b'_'
+}
+
+fn source_len(text: &[u8]) -> usize
+    ensures value { result ≡ prefix_len continues_source text.now }
+    ensures within { result ≤ length text.now }
+{
+    text.iter()
+        .take_while(|byte| begins_source(**byte) || **byte == b'.' || **byte == b'-')
+        .count()
+}
+
+fn is_in_pattern(byte: u8) -> bool
+    ensures { result ≡ is_in_pattern byte }
+{
+    begins_source(byte) || matches!(byte, b'@' | b'.' | b'*')
+}
+
+fn pattern_len(text: &[u8]) -> usize
+    ensures value { result ≡ prefix_len is_in_pattern text.now }
+    ensures within { result ≤ length text.now }
+{
+    text.iter().take_while(|byte| is_in_pattern(**byte)).count()
+}
+
+#[tactic(auto, unfolding(crate::specs::Words::separator))]
+fn separator(byte: u8) -> Option<Sign>
+    ensures { result ≡ separator byte }
+{
+    match byte {
+        b'|' => Some(Sign::Bar),
+        b',' => Some(Sign::Comma),
+        _ => None,
+    }
+}
+
+fn source_at(text: &[u8], at: u32) -> Result<Token, LexError>
+    requires some { 0 < length text.now }
+    requires no_comment { begins_comment text.now ≡ false }
+    requires short { at + length text.now ≤ 65536 }
+    ensures { Reads Source at text.now result }
+{
+    if begins_source(text[0]) {
+        let (_, after) = text.split_at(1);
+        let len = 1 + source_len(after);
+        return Ok(token(TokenKind::Source, at, len));
+    }
+    match separator(text[0]) {
+        Some(sign) => Ok(token(TokenKind::Sign { sign }, at, 1)),
+        None => Err(LexError::BadCharacter { at }),
+    }
+}
+
+fn pattern_at(text: &[u8], at: u32) -> Result<Token, LexError>
+    requires some { 0 < length text.now }
+    requires no_comment { begins_comment text.now ≡ false }
+    requires short { at + length text.now ≤ 65536 }
+    ensures { Reads Pattern at text.now result }
+{
+    if is_in_pattern(text[0]) {
+        let len = pattern_len(text);
+        return Ok(token(TokenKind::Pattern, at, len));
+    }
+    if text[0] == b'`' {
+        return quoted_at(Mode::Pattern, text, at);
+    }
+    match separator(text[0]) {
+        Some(sign) => Ok(token(TokenKind::Sign { sign }, at, 1)),
+        None => Err(LexError::BadCharacter { at }),
+    }
+}
+
+// The token that stands here, or the fault.
+pub(crate) fn token_at(mode: Mode, text: &[u8], at: u32) -> Result<Token, LexError>
+    requires some { 0 < length text.now }
+    requires no_gap { piece_len text.now ≡ None }
+    requires short { at + length text.now ≤ 65536 }
+    ensures { Reads mode at text.now result }
+{
+    if begins_block(text) {
+        return Err(LexError::OpenComment { at });
+    }
+    match mode {
+        Mode::Plain => plain_at(text, at),
+        Mode::Source => source_at(text, at),
+        Mode::Pattern => pattern_at(text, at),
     }
 }

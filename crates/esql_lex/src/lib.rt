@@ -1,9 +1,13 @@
 //! The tokens of a query.
 #![tactic(auto)]
 
+mod body;
 mod error;
 mod forms;
+mod gaps;
 mod laws;
+mod mode;
+mod quotes;
 mod reading;
 #[cfg(test)]
 mod tests;

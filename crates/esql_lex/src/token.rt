@@ -25,7 +25,9 @@ pub enum TokenKind {
     Text,
     /// A whole number, which has no sign of its own.
     Number { value: i64 },
+    /// A reserved word.
     Word { word: Reserved },
+    /// A sign.
     Sign { sign: Sign },
     /// The end of the query, which is empty.
     End,
@@ -80,6 +82,7 @@ pub enum Sign {
 }
 
 impl Reserved {
+    /// Every reserved word.
     pub const ALL: [Reserved; 19] = [
         Reserved::And,
         Reserved::Or,

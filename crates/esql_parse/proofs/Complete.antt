@@ -1,10 +1,10 @@
 -- What is spelled is read.
-use Rattle.std.proofs.Common.{◌≡◌, ◌≢◌, List, [], ◌∷◌, ◌++◌, Option, Some, None, refl, sym, ◌∙◌, ap, append_assoc, append-nil}
+use Rattle.std.proofs.Common.{◌≡◌, List, [], ◌∷◌, ◌++◌, Option, Some, None, refl, sym, ◌∙◌, ap, append_assoc, append-nil}
 use Rattle.std.specs.List.{flat_map}
 use Rattle.esql_types.specs.declared.places.Span.{Span}
 use Rattle.esql_ast.specs.declared.query.NameAt.{NameAt}
 use Rattle.esql_parse.specs.declared.shape.Shape.{Shape}
-use Rattle.esql_parse.specs.declared.shape.Shape.TheVariants.{Name, Number, Opening, Closing, Bar, Comma, Plus, Assign, End, Other}
+use Rattle.esql_parse.specs.declared.shape.Shape.TheVariants.{Number, Closing, Bar, Comma, Plus, Assign, End}
 use Rattle.esql_parse.specs.declared.written.Chain.{Chain}
 use Rattle.esql_parse.specs.declared.written.NumberAt.{NumberAt}
 use Rattle.esql_parse.specs.declared.written.Part.{Part}
@@ -15,9 +15,9 @@ use Rattle.esql_parse.specs.declared.written.Written.{Written}
 use Rattle.esql_parse.specs.declared.machine.InCommand.{InCommand}
 use Rattle.esql_parse.specs.declared.machine.InField.{InField}
 use Rattle.esql_parse.specs.declared.machine.State.{State}
-use Rattle.esql_parse.specs.declared.machine.State.TheVariants.{Word, FieldStart, Named, PartStart, ValueStart, Listed, Summed, Done}
-use Rattle.esql_parse.specs.Grammar.{spelled_chain, spelled_number, spelled_part, spelled_name, spelled_field, spelled_command, spelled_commands, spelled}
-use Rattle.esql_parse.specs.Machine.{after_before, field_of, with_part, with_field, after_part, after_name, step, and_then, walk, whole_of, read}
+use Rattle.esql_parse.specs.declared.machine.State.TheVariants.{Word, FieldStart, Named, PartStart, ValueStart, Summed, Done}
+use Rattle.esql_parse.specs.Grammar.{spelled_chain, spelled_number, spelled_part, spelled_name, spelled_field, spelled_command, spelled}
+use Rattle.esql_parse.specs.Machine.{after_before, field_of, with_part, and_then, walk, whole_of, read}
 
 -- each value with its comma
 abbrev pub values_front : List NumberAt → List Shape

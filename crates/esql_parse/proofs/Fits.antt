@@ -1,33 +1,29 @@
 -- The spans of a tree are parts of the text.
-use Rattle.std.proofs.Common.{◌≡◌, ℕ, ◌+◌, ◌≤◌, List, [], ◌∷◌, ◌++◌, map, length, reverse, Option, refl, sym, ◌∙◌, ap, subst, arith, append_assoc}
+use Rattle.std.proofs.Common.{◌≡◌, ℕ, ◌+◌, ◌≤◌, List, [], ◌∷◌, ◌++◌, length, reverse, sym, ◌∙◌, ap, subst, arith, append_assoc}
 use Rattle.std.specs.List.{All, flat_map}
 use Rattle.std.proofs.lemmas.List.{reverse-append, reverse-reverse}
 use Rattle.std.proofs.lemmas.List.Elements.{All-nil, All-cons, All-append, All-same}
-use Rattle.esql_types.specs.declared.places.Span.{Span}
 use Rattle.esql_types.specs.Spans.{SpanFits}
 use Rattle.esql_lex.specs.declared.token.Token.{Token}
 use Rattle.esql_lex.specs.Tokens.{FitsText}
 use Rattle.esql_ast.specs.declared.nodes.NodeAt.{NodeAt}
 use Rattle.esql_ast.specs.declared.expr.Expr.{Expr}
-use Rattle.esql_ast.specs.declared.query.NameAt.{NameAt}
 use Rattle.esql_ast.specs.declared.query.Field.{Field}
 use Rattle.esql_ast.specs.declared.query.Command.{Command}
 use Rattle.esql_ast.specs.declared.query.Query.{Query}
-use Rattle.esql_ast.specs.Fits.{ExprFits, FieldFits, FieldsFit, KindFits, SourceFits, QueryFits}
-use Rattle.esql_ast.specs.Nodes.{nodes_of_expr, nodes_of_field, nodes_of_command, nodes_of_source, nodes_of}
+use Rattle.esql_ast.specs.Fits.{FieldFits, FieldsFit, KindFits, QueryFits}
+use Rattle.esql_ast.specs.Nodes.{nodes_of_expr, nodes_of_field, nodes_of_command, nodes_of_source}
 use Rattle.esql_parse.specs.declared.shape.Shape.{Shape}
-use Rattle.esql_parse.specs.declared.shape.Shape.TheVariants.{Name, Number, Opening, Closing, Bar, Comma, Plus, Assign, End, Other}
-use Rattle.esql_parse.specs.declared.written.Chain.{Chain}
-use Rattle.esql_parse.specs.declared.written.NumberAt.{NumberAt}
+use Rattle.esql_parse.specs.declared.shape.Shape.TheVariants.{Closing, Bar, Comma, Plus, End}
 use Rattle.esql_parse.specs.declared.written.Part.{Part}
 use Rattle.esql_parse.specs.declared.written.Part.TheVariants as part
 use Rattle.esql_parse.specs.declared.written.WrittenField.{WrittenField}
 use Rattle.esql_parse.specs.declared.written.WrittenCommand.{WrittenCommand}
 use Rattle.esql_parse.specs.declared.written.Written.{Written}
-use Rattle.esql_parse.specs.Grammar.{spelled_chain, spelled_number, spelled_part, spelled_name, spelled_field, spelled_command, spelled_commands, spelled, items_of, shape_of, SpelledBy}
+use Rattle.esql_parse.specs.Grammar.{spelled_chain, spelled_number, spelled_part, spelled_name, spelled_field, spelled_command, spelled_commands, spelled}
 use Rattle.esql_parse.specs.Trees.{join, span_of, part_span, part_tree, added, sum_size, sum_tree, field_size, field_expr, field_tree, field_trees, command_span, command_size, command_fields, source_tree, command_tree, command_trees, tree_of}
 use Rattle.esql_parse.specs.Spells.{Spells}
-use Rattle.esql_parse.proofs.Complete.{values_front, parts_front, fields_front, later_commands}
+use Rattle.esql_parse.proofs.Complete.{parts_front, fields_front, later_commands}
 use Rattle.esql_parse.proofs.Sound.{parts_front-push}
 use Rattle.esql_parse.proofs.Nodes.{node_at, nodes_of_part, nodes_of_added}
 use Rattle.esql_parse.proofs.Places.{Placed, Stands, end_of, stands_left, stands_right, end_of-append, end_le, join_placed, placed_within, stands_shapes}

@@ -1,16 +1,15 @@
 -- What is read and built is what tokens spell.
-use Rattle.std.proofs.Common.{◌≡◌, ℕ, ◌+◌, ◌≤◌, Bool, true, false, if◌then◌else◌, IsTrue, List, map, length, Option, Some, None, Result, Ok, Err, refl, sym, ◌∙◌, ap, subst, arith}
+use Rattle.std.proofs.Common.{◌≡◌, ℕ, ◌≤◌, Bool, true, false, if◌then◌else◌, IsTrue, List, map, length, Option, Some, None, Result, Ok, Err, refl, sym, ◌∙◌, ap, subst, arith}
 use Rattle.std.specs.Result.{MatchResult}
 use Rattle.std.proofs.lemmas.List.{length-map}
 use Rattle.esql_lex.specs.declared.token.Token.{Token}
 use Rattle.esql_ast.specs.declared.query.Query.{Query}
 use Rattle.esql_parse.specs.declared.error.ParseError.{ParseError}
 use Rattle.esql_parse.specs.declared.error.ParseError.TheVariants.{NotBuilt, Memory}
-use Rattle.esql_parse.specs.declared.shape.Shape.{Shape}
 use Rattle.esql_parse.specs.declared.written.Written.{Written}
-use Rattle.esql_parse.specs.Grammar.{shape_of, spelled, is_built, SpelledBy}
+use Rattle.esql_parse.specs.Grammar.{shape_of, is_built, SpelledBy}
 use Rattle.esql_parse.specs.Machine.{read, built_of}
-use Rattle.esql_parse.specs.Trees.{size_of, tree_of}
+use Rattle.esql_parse.specs.Trees.{size_of}
 use Rattle.esql_parse.specs.Spells.{Spells, IsRefusal, IsQueryOrMemory}
 use Rattle.esql_parse.proofs.Complete.{read-spelled}
 use Rattle.esql_parse.proofs.Sound.{spelled_by_read}

@@ -1,13 +1,13 @@
 -- The nodes of a tree that is made of what is written.
-use Rattle.std.proofs.Common.{◌≡◌, ℕ, ◌+◌, List, [], ◌∷◌, ◌++◌, ◌∙◌, ap, sym, refl}
+use Rattle.std.proofs.Common.{◌≡◌, ℕ, List, [], ◌∷◌, ◌++◌, ◌∙◌, ap, sym}
 use Rattle.esql_types.specs.declared.places.Span.{Span}
 use Rattle.esql_ast.specs.declared.nodes.NodeAt.{NodeAt}
 use Rattle.esql_ast.specs.declared.expr.BinaryOp.{BinaryOp}
 use Rattle.esql_ast.specs.declared.expr.BinaryOp.TheVariants.{Add}
-use Rattle.esql_ast.specs.declared.expr.Expr.{Expr, roll-Expr}
+use Rattle.esql_ast.specs.declared.expr.Expr.{Expr}
 use Rattle.esql_ast.specs.declared.expr.Form.{Form}
-use Rattle.esql_ast.specs.declared.expr.Form.TheVariants.{Constant, List as Listed, Column, Binary, rolls-Constant, rolls-List, rolls-Column, rolls-Binary}
-use Rattle.esql_ast.specs.declared.expr.Form.TheFolds.{fold-Expr, fold-Form, fold-roll-Expr, fold-roll-Form}
+use Rattle.esql_ast.specs.declared.expr.Form.TheVariants.{Binary, rolls-Constant, rolls-List, rolls-Column, rolls-Binary}
+use Rattle.esql_ast.specs.declared.expr.Form.TheFolds.{fold-Form, fold-roll-Expr, fold-roll-Form}
 use Rattle.esql_ast.specs.Nodes.{nodes_of_expr, nodes_in}
 use Rattle.esql_parse.specs.declared.written.Part.{Part}
 use Rattle.esql_parse.specs.declared.written.Part.TheVariants as part

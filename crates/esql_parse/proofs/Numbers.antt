@@ -1,19 +1,19 @@
 -- The nodes of a tree are numbered in written order.
-use Rattle.std.proofs.Common.{◌≡◌, ℕ, zero, suc, ◌+◌, ◌*◌, List, [], ◌∷◌, ◌++◌, map, length, reverse, refl, sym, ◌∙◌, ap, subst, arith}
+use Rattle.std.proofs.Common.{◌≡◌, ℕ, zero, suc, ◌+◌, ◌*◌, List, [], ◌∷◌, ◌++◌, map, reverse, refl, sym, ◌∙◌, ap, subst, arith}
 use Rattle.std.specs.List.{flat_map, range_with_len}
 use Rattle.std.proofs.lemmas.List.{map-append, length-reverse}
 use Rattle.esql_lex.specs.declared.token.Token.{Token}
 use Rattle.esql_ast.specs.declared.nodes.NodeAt.{NodeAt}
 use Rattle.esql_ast.specs.declared.query.Query.{Query}
-use Rattle.esql_ast.specs.Nodes.{nodes_of_expr, nodes_of_field, nodes_of_command, nodes_of_source, nodes_of}
+use Rattle.esql_ast.specs.Nodes.{nodes_of_expr, nodes_of_field, nodes_of_command, nodes_of_source}
 use Rattle.esql_parse.specs.declared.written.Part.{Part}
 use Rattle.esql_parse.specs.declared.written.WrittenField.{WrittenField}
 use Rattle.esql_parse.specs.declared.written.WrittenCommand.{WrittenCommand}
 use Rattle.esql_parse.specs.declared.written.Written.{Written}
 use Rattle.esql_parse.specs.Grammar.{items_of}
-use Rattle.esql_parse.specs.Trees.{join, span_of, part_span, part_tree, added, sum_size, sum_tree, field_size, field_tree, fields_size, field_trees, command_span, command_size, command_fields, source_tree, command_tree, commands_size, command_trees, size_of, tree_of}
+use Rattle.esql_parse.specs.Trees.{part_tree, sum_size, sum_tree, field_size, field_tree, fields_size, field_trees, command_size, command_fields, source_tree, command_tree, commands_size, command_trees, size_of, tree_of}
 use Rattle.esql_parse.specs.Spells.{Spells, IsNumbered}
-use Rattle.esql_parse.proofs.Nodes.{node_at, nodes_of_part, nodes_of_added}
+use Rattle.esql_parse.proofs.Nodes.{nodes_of_part, nodes_of_added}
 
 abbrev pub numbers_of : List NodeAt → List ℕ
 numbers_of nodes = map (λ place. place.node.0) nodes

@@ -1,5 +1,5 @@
 -- Shapes stand in a text one after another.
-use Rattle.std.proofs.Common.{◌≡◌, ℕ, suc, get_or, ◌+◌, ◌<◌, ◌≤◌, Bool, true, false, if◌then◌else◌, ◌==◌, nat_le, pos, negsuc, List, [], ◌∷◌, ◌++◌, map, length, refl, sym, ◌∙◌, ap, subst, arith}
+use Rattle.std.proofs.Common.{◌≡◌, ℕ, suc, get_or, ◌≤◌, Bool, true, false, if◌then◌else◌, ◌==◌, nat_le, pos, negsuc, List, [], ◌∷◌, ◌++◌, map, length, refl, arith}
 use Rattle.std.specs.List.{All, AllPairs, list_any}
 use Rattle.std.proofs.lemmas.List.Elements.{All-head, All-tail}
 use Rattle.esql_types.specs.declared.places.Span.{Span}
@@ -11,8 +11,8 @@ use Rattle.esql_lex.specs.declared.token.TokenKind.{TokenKind}
 use Rattle.esql_lex.specs.declared.token.TokenKind.TheVariants as kind
 use Rattle.esql_lex.specs.Tokens.{slice_of, IsPartOf, FitsText}
 use Rattle.esql_parse.specs.declared.shape.Shape.{Shape}
-use Rattle.esql_parse.specs.declared.shape.Shape.TheVariants.{Name, Number, Opening, Closing, Bar, Comma, Plus, Assign, End, Other}
-use Rattle.esql_parse.specs.Grammar.{name_shape, number_shape, sign_shape, kind_shape, shape_of}
+use Rattle.esql_parse.specs.declared.shape.Shape.TheVariants.{Name, Number, Opening, Closing, Other}
+use Rattle.esql_parse.specs.Grammar.{sign_shape, kind_shape, shape_of}
 
 -- a span is a part of the text, between two places
 pub record Placed (text : List ℕ) (from : ℕ) (span : Span) (to : ℕ) : Type 0 where

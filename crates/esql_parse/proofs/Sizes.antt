@@ -1,14 +1,12 @@
 -- What is written has no more nodes than tokens.
-use Rattle.std.proofs.Common.{◌≡◌, ℕ, ◌+◌, ◌*◌, ◌≤◌, List, [], ◌∷◌, ◌++◌, length, map, arith, length-append, ap}
-use Rattle.std.proofs.lemmas.List.{length-map}
-use Rattle.esql_parse.specs.declared.shape.Shape.{Shape}
-use Rattle.esql_parse.specs.declared.shape.Shape.TheVariants.{Name, Number, Opening, Closing, Bar, Comma, Plus, Assign, End, Other}
+use Rattle.std.proofs.Common.{◌*◌, ◌≤◌, List, [], ◌∷◌, ◌++◌, length, arith, length-append}
+use Rattle.esql_parse.specs.declared.shape.Shape.TheVariants.{Bar, Comma, Plus, End}
 use Rattle.esql_parse.specs.declared.written.Part.{Part}
 use Rattle.esql_parse.specs.declared.written.Part.TheVariants as part
 use Rattle.esql_parse.specs.declared.written.WrittenField.{WrittenField}
 use Rattle.esql_parse.specs.declared.written.WrittenCommand.{WrittenCommand}
 use Rattle.esql_parse.specs.declared.written.Written.{Written}
-use Rattle.esql_parse.specs.Grammar.{spelled_chain, spelled_number, spelled_part, spelled_name, spelled_field, spelled_command, spelled_commands, spelled, items_of}
+use Rattle.esql_parse.specs.Grammar.{spelled_part, spelled_name, spelled_field, spelled_command, spelled}
 use Rattle.esql_parse.specs.Trees.{sum_size, field_size, fields_size, command_size, commands_size, size_of}
 use Rattle.esql_parse.proofs.Complete.{parts_front, fields_front, later_commands}
 

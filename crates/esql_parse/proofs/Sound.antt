@@ -1,12 +1,11 @@
 -- What is read is spelled.
 use Rattle.std.proofs.Common.{◌≡◌, List, [], ◌∷◌, ◌++◌, Option, Some, None, refl, sym, ◌∙◌, ap, subst, append_assoc, append-nil}
 use Rattle.std.specs.Option.{IfSome}
-use Rattle.std.specs.List.{flat_map}
 use Rattle.std.proofs.lemmas.List.Concat.{flat_map-append}
 use Rattle.esql_types.specs.declared.places.Span.{Span}
 use Rattle.esql_ast.specs.declared.query.NameAt.{NameAt}
 use Rattle.esql_parse.specs.declared.shape.Shape.{Shape}
-use Rattle.esql_parse.specs.declared.shape.Shape.TheVariants.{Name, Number, Opening, Closing, Bar, Comma, Plus, Assign, End, Other}
+use Rattle.esql_parse.specs.declared.shape.Shape.TheVariants.{Name, Number, Opening, Closing, Bar, Comma, Plus, Assign, End}
 use Rattle.esql_parse.specs.declared.written.Chain.{Chain}
 use Rattle.esql_parse.specs.declared.written.NumberAt.{NumberAt}
 use Rattle.esql_parse.specs.declared.written.Part.{Part}
@@ -19,8 +18,8 @@ use Rattle.esql_parse.specs.declared.machine.InField.{InField}
 use Rattle.esql_parse.specs.declared.machine.State.{State}
 use Rattle.esql_parse.specs.declared.machine.State.TheVariants.{Word, FieldStart, Named, PartStart, ValueStart, Listed, Summed, Done}
 use Rattle.esql_parse.specs.Grammar.{spelled_chain, spelled_number, spelled_part, spelled_name, spelled_field, spelled_command, spelled_commands, spelled}
-use Rattle.esql_parse.specs.Machine.{after_before, field_of, field_with, with_part, with_field, with_command, after_word, after_field_start, after_name, after_part_start, after_value_start, after_value, after_part, step, and_then, walk, whole_of, read}
-use Rattle.esql_parse.proofs.Complete.{values_front, parts_front, fields_front, later_commands}
+use Rattle.esql_parse.specs.Machine.{after_before, field_of, field_with, with_command, after_word, after_field_start, after_name, after_part_start, after_value_start, after_value, after_part, step, and_then, walk, whole_of, read}
+use Rattle.esql_parse.proofs.Complete.{values_front, parts_front, fields_front}
 
 -- the shapes that were read before a state
 abbrev before_shapes : Option Written → List Shape

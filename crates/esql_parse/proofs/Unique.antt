@@ -2,7 +2,6 @@
 use Rattle.std.proofs.Common.{◌≡◌, ℕ, List, sym, ◌∙◌, ap}
 use Rattle.esql_lex.specs.declared.token.Token.{Token}
 use Rattle.esql_ast.specs.declared.query.Query.{Query}
-use Rattle.esql_parse.specs.Grammar.{SpelledBy}
 use Rattle.esql_parse.specs.Trees.{tree_of}
 use Rattle.esql_parse.specs.Spells.{Spells}
 use Rattle.esql_parse.proofs.Complete.{spelled_injective}

@@ -1,5 +1,5 @@
 -- The tree of what is written, with its nodes numbered in written order: the outer before the inner, from the left.
-use Rattle.std.specs.Prelude.{ℕ, ◌+◌, ◌*◌, List, [], ◌∷◌, ◌++◌, length, map, reverse, Option, Some, None}
+use Rattle.std.specs.Prelude.{ℕ, ◌+◌, ◌*◌, List, [], ◌∷◌, length, map, reverse}
 use Rattle.esql_types.specs.declared.places.Span.{Span}
 use Rattle.esql_types.specs.declared.value.Kind.TheVariants.{Integer}
 use Rattle.esql_types.specs.declared.value.Value.{Value}

@@ -1,5 +1,5 @@
 -- What was written where memory was refused and a write failed.
-use Rattle.std.proofs.Common.{◌≡◌, ◌⊎◌, ℕ, List, [], ◌∷◌, ◌++◌, Option, Some, None, refl, sym, ◌∙◌, ap, subst, inl, inr, ⊎_elim, append-nil}
+use Rattle.std.proofs.Common.{◌≡◌, ℕ, List, [], ◌∷◌, Option, Some, None, refl, sym, ◌∙◌, ap, subst, inr, ⊎_elim, append-nil}
 use Rattle.esql_io.specs.Sinks.{with_more, TookFront}
 use Rattle.answer_text.specs.Messages.{out_of_memory}
 use Rattle.esql_run.specs.declared.status.Status.{Status}

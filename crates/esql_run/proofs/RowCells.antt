@@ -1,13 +1,12 @@
 -- The rows of a table in shape have a cell for each column.
-use Rattle.std.proofs.Common.{◌≡◌, ℕ, List, map, length, All, sym, ap, ◌∙◌}
+use Rattle.std.proofs.Common.{◌≡◌, List, map, length, All, sym, ap, ◌∙◌}
 use Rattle.std.proofs.lemmas.List.{length-map}
 use Rattle.std.proofs.lemmas.List.Elements.{All-map}
 use Rattle.esql_types.specs.declared.value.Value.{Value}
 use Rattle.esql_types.specs.declared.names.Column.{Column}
-use Rattle.row_semantics.specs.Rows.{Row}
 use Rattle.row_semantics.specs.declared.row.NamedCell.{NamedCell}
 use Rattle.query_semantics.specs.declared.table.Table.{Table}
-use Rattle.query_semantics.specs.Tables.{IsShaped, names_in, names_of, cells_of}
+use Rattle.query_semantics.specs.Tables.{IsShaped, cells_of}
 
 pub cells_fit : (table : Table) → IsShaped table → All (λ (cells : List (List Value)). length cells ≡ length table.columns) (map cells_of table.rows)
 cells_fit table shaped =

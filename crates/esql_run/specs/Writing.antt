@@ -4,7 +4,7 @@ use Rattle.esql_io.specs.Sinks.{with_more, TookFront}
 use Rattle.answer_text.specs.Messages.{out_of_memory}
 use Rattle.esql_run.specs.declared.status.Status.{Status}
 use Rattle.esql_run.specs.declared.status.Status.TheVariants.{WriteFault, NoMemory}
-use Rattle.esql_run.specs.Outcome.{Outcome, IsOutcome}
+use Rattle.esql_run.specs.Outcome.{IsOutcome}
 
 -- the status and the texts are those of an outcome of the words, or of want of memory
 abbrev pub IsWanted : List (List ℕ) → Status → List ℕ → List ℕ → Type 0

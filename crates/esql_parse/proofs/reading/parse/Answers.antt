@@ -1,5 +1,5 @@
 use Rattle.std.specs.Result.{IfOk, MatchResult}
-use Rattle.std.proofs.Common.{List, Result, Ok, Err, ℕ, sym, subst}
+use Rattle.std.proofs.Common.{List, Result, Ok, Err, ℕ, subst}
 use Rattle.esql_lex.specs.declared.token.Token.{Token}
 use Rattle.esql_ast.specs.declared.query.Query.{Query}
 use Rattle.esql_ast.specs.Fits.{QueryFits}

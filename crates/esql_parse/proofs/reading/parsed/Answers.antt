@@ -1,7 +1,6 @@
-use Rattle.std.proofs.Common.{◌≡◌, ◌≤◌, Some, None, map, length, sym, ◌∙◌, ap, arith}
-use Rattle.esql_parse.specs.Grammar.{shape_of}
+use Rattle.std.proofs.Common.{◌≤◌, length, sym, ◌∙◌, ap, arith}
 use Rattle.esql_parse.specs.Trees.{size_of}
-use Rattle.esql_parse.specs.Machine.{read, built_of}
+use Rattle.esql_parse.specs.Machine.{built_of}
 use Rattle.esql_parse.proofs.Meets.{spelled_by_built, refused, size_of_spelled}
 use Rattle.esql_parse.proofs.reading.parsed.Goals as goal
 
