@@ -34,11 +34,11 @@ fn words(rt: &(impl Env + AllocGlobal)) -> io::Result<Vec<String>> {
     Ok(words)
 }
 
-/// The status where the words could not be had: a word that is no text is none of a call.
+/// The status where the words could not be had: memory was refused, or a word is no text, and so none of a call.
 fn refuse_words<E: Sink>(error: &io::Error, err: &mut E) -> Status {
     let (status, line) = match error.kind() {
-        io::ErrorKind::InvalidData => (Status::Usage, usage()),
-        _ => (Status::NoMemory, out_of_memory()),
+        io::ErrorKind::OutOfMemory => (Status::NoMemory, out_of_memory()),
+        _ => (Status::Usage, usage()),
     };
     match write_whole(err, line.as_bytes()) {
         Ok(()) => status,
