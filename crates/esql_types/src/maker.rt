@@ -1,4 +1,4 @@
-ghost use Rattle.std.specs.Prelude.{◌≡◌, ◌≤◌, ℕ, List, OnOk, IfOk, IfErr};
+ghost use Rattle.std.specs.Prelude.{[], ◌≡◌, ◌≤◌, ℕ, List, OnOk, IfOk, IfErr};
 ghost use Rattle.esql_types.specs.Counts.{Rose};
 ghost use Rattle.esql_types.specs.Patterns.{IsReading, IsReadable, IsUnreadable};
 
@@ -47,7 +47,10 @@ pub struct CrateMaker {
 
 impl CrateMaker {
     /// A maker whose calls, numbered from 0, answer `TooLarge` where their number is in `failing`.
-    pub fn new(failing: Seq<u64>) -> CrateMaker {
+    pub fn new(failing: Seq<u64>) -> CrateMaker
+        ensures none_refused { result.refused ≡ 0 }
+        ensures none_noted { result.last.text ≡ [] }
+    {
         CrateMaker {
             calls: 0,
             refused: 0,
