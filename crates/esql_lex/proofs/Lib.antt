@@ -1,5 +1,6 @@
 mod Bodies
 mod Closings
+mod Contents
 mod Divisions
 mod Lists
 mod OneDivision
@@ -10,3 +11,4 @@ mod SliceEnds
 mod Slices
 mod Spans
 mod Texts
+mod Writings

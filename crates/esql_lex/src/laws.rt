@@ -1,6 +1,8 @@
-ghost use Rattle.std.specs.Prelude.{◌≡◌, ℕ, List, All, IsUtf8};
+ghost use Rattle.std.specs.Prelude.{◌≡◌, ◌≢◌, [], ℕ, List, All, IsUtf8};
 ghost use Rattle.esql_lex.specs.declared.error.LexError.{LexError};
 ghost use Rattle.esql_lex.specs.declared.token.Token.{Token};
+ghost use Rattle.esql_lex.specs.declared.token.TokenKind.TheVariants.{QuotedName, Text};
+ghost use Rattle.esql_lex.specs.Contents.{in_backticks, in_quotes, Holds};
 ghost use Rattle.esql_lex.specs.Tokens.{Tokens, LexFault, IsPartOf, HasForm, pieces_of};
 
 /// A law: the gaps and the slices of a text's tokens, joined, are the text.
@@ -31,4 +33,14 @@ pub fn one_fault()
 /// A law: a text that has a list of tokens has no fault.
 pub fn not_both()
     ensures { (text : List ℕ) (tokens : List Token) (fault : LexError) → Tokens text tokens → LexFault text fault → ⊥ }
+{}
+
+/// A law: every name but the empty one can be written in backticks.
+pub fn names_in_backticks()
+    ensures { (name : List ℕ) → name ≢ [] → Holds (in_backticks name) QuotedName name }
+{}
+
+/// A law: every text can be written in quotes.
+pub fn texts_in_quotes()
+    ensures { (text : List ℕ) → Holds (in_quotes text) Text text }
 {}

@@ -71,7 +71,7 @@ pub(crate) fn quoted_at(mode: Mode, text: &[u8], at: u32) -> Result<Token, LexEr
     }
 }
 
-fn begins_long(text: &[u8]) -> bool
+pub(crate) fn begins_long(text: &[u8]) -> bool
     ensures { result ≡ begins_long text.now }
 {
     matches!(text, [b'"', b'"', b'"', ..])

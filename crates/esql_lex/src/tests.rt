@@ -1,8 +1,13 @@
+ghost use Rattle.std.specs.Prelude.{◌≡◌, true};
+ghost use Rattle.esql_types.specs.Spans.{SpanFits};
+
 use crate::{
-    LexError, Reserved, Sign, Token, TokenKind, lex, not_both, one_fault, one_list, pieces_join,
-    slices_have_forms, tokens_are_parts,
+    LexError, Reserved, Sign, Token, TokenKind, content_of, lex, names_in_backticks, not_both,
+    one_fault, one_list, pieces_join, slices_have_forms, texts_in_quotes, token_text,
+    tokens_are_parts,
 };
 use esql_types::Span;
+use std::alloc::Global;
 use std::test::Fail;
 
 fn token(kind: TokenKind, from: u32, to: u32) -> Token {
@@ -154,6 +159,160 @@ fn each_mode_has_its_tokens(rt: HostRuntime) -> Result<(), Fail> {
     Ok(())
 }
 
+// The kinds and spans of a text's tokens, or its first fault.
+fn shown(alloc: Global, text: &str) -> Result<String, Fail> {
+    let mut out = String::new(alloc);
+    if text.len() > 65536 {
+        return Ok(out);
+    }
+    match lex(alloc, text) {
+        Ok(tokens) => {
+            for token in tokens.as_slice() {
+                let Span { from, to } = token.span;
+                write!(out, "{:?} {from}..{to}, ", token.kind)?;
+            }
+        }
+        Err(LexError::Memory(error)) => return Err(error.into()),
+        Err(fault) => write!(out, "{fault:?}")?,
+    }
+    Ok(out)
+}
+
+const TOKENS: &[(&str, &str)] = &[
+    ("a . b", "BadCharacter { at: 2 }"),
+    ("a.b.c", "Name 0..5, End 5..5, "),
+    ("a//b", "Name 0..1, End 4..4, "),
+    ("a/*b*/c", "Name 0..1, Name 6..7, End 7..7, "),
+    (
+        "a/*/*b*/c*/",
+        "Name 0..1, Name 8..9, Sign { sign: Star } 9..10, Sign { sign: Slash } 10..11, End 11..11, ",
+    ),
+    (
+        "a/b",
+        "Name 0..1, Sign { sign: Slash } 1..2, Name 2..3, End 3..3, ",
+    ),
+    (
+        "FROM a/*b*/c",
+        "Name 0..4, Source 5..6, Source 11..12, End 12..12, ",
+    ),
+    ("FROM a//b", "Name 0..4, Source 5..6, End 9..9, "),
+    (
+        "`FROM` t-1",
+        "QuotedName 0..6, Name 7..8, Sign { sign: Minus } 8..9, Number { value: 1 } 9..10, End 10..10, ",
+    ),
+    (
+        "from t-1.x, u",
+        "Name 0..4, Source 5..10, Sign { sign: Comma } 10..11, Source 12..13, End 13..13, ",
+    ),
+    (
+        "ENRICH p-1 ON b-1",
+        "Name 0..6, Source 7..10, Word { word: On } 11..13, Name 14..15, Sign { sign: Minus } 15..16, Number { value: 1 } 16..17, End 17..17, ",
+    ),
+    (
+        "lookup JOIN t-1 ON b",
+        "Name 0..6, Name 7..11, Source 12..15, Word { word: On } 16..18, Name 19..20, End 20..20, ",
+    ),
+    (
+        "LOOKUP t-1",
+        "Name 0..6, Name 7..8, Sign { sign: Minus } 8..9, Number { value: 1 } 9..10, End 10..10, ",
+    ),
+    (
+        "KEEP a*, `b*`",
+        "Name 0..4, Pattern 5..7, Sign { sign: Comma } 7..8, QuotedName 9..13, End 13..13, ",
+    ),
+    ("\"\"\"a\"b\"\"\"", "Text 0..9, End 9..9, "),
+    ("\"\" \"\"\"\"\"\"", "Text 0..2, Text 3..9, End 9..9, "),
+    ("`a``b`", "QuotedName 0..6, End 6..6, "),
+    ("\"\"\"a\rb\"\"\"\r", "Text 0..9, End 10..10, "),
+    (
+        "\"é€😀\"`é€😀`",
+        "Text 0..11, QuotedName 11..22, End 22..22, ",
+    ),
+    ("a é", "BadCharacter { at: 2 }"),
+    ("a €", "BadCharacter { at: 2 }"),
+    ("FROM 😀", "BadCharacter { at: 5 }"),
+    ("\0", "BadCharacter { at: 0 }"),
+    ("\"\0\"", "Text 0..3, End 3..3, "),
+    ("a ! 9223372036854775808 \"", "BadCharacter { at: 2 }"),
+];
+
+#[test]
+fn texts_and_their_tokens(rt: HostRuntime) -> Result<(), Fail> {
+    for (text, want) in TOKENS {
+        assert_eq!(rt; shown(rt.alloc(), text)?.as_str(), *want);
+    }
+    Ok(())
+}
+
+#[test]
+fn the_longest_token(rt: HostRuntime) -> Result<(), Fail> {
+    let mut text = String::new(rt.alloc());
+    for _ in 0..65536 {
+        text.push('a')?;
+    }
+    let tokens = shown(rt.alloc(), text.as_str())?;
+    assert_eq!(rt; tokens.as_str(), "Name 0..65536, End 65536..65536, ");
+    Ok(())
+}
+
+const CONTENTS: &[(TokenKind, &str, &str)] = &[
+    (TokenKind::Name, "a.b", "a.b"),
+    (TokenKind::Pattern, "a*", "a*"),
+    (TokenKind::Source, "t-1.x", "t-1.x"),
+    (TokenKind::QuotedName, "`a``b`", "a`b"),
+    (TokenKind::QuotedName, "````", "`"),
+    (TokenKind::QuotedName, "`\\t é€😀*\0`", "\\t é€😀*\0"),
+    (TokenKind::Text, "\"\"", ""),
+    (TokenKind::Text, "\"a`` é€😀\0\"", "a`` é€😀\0"),
+    (TokenKind::Text, "\"\\t\\n\\r\\\"\\\\t\"", "\t\n\r\"\\t"),
+    (TokenKind::Text, "\"\\\\\"", "\\"),
+    (TokenKind::Text, "\"\"\"\"\"\"", ""),
+    (
+        TokenKind::Text,
+        "\"\"\"\"a\"\"b\\n\r\"\"\"",
+        "\"a\"\"b\\n\r",
+    ),
+];
+
+#[test]
+fn slices_and_what_they_hold(rt: HostRuntime) -> Result<(), Fail> {
+    for (kind, slice, want) in CONTENTS {
+        assert_eq!(rt; content_of(rt.alloc(), *kind, slice)?.as_str(), *want);
+    }
+    Ok(())
+}
+
+fn fits(text: &str, span: Span) -> bool
+    ensures { result ≡ true → SpanFits text.now span }
+{
+    span.from <= span.to
+        && text.is_char_boundary(span.from as usize)
+        && text.is_char_boundary(span.to as usize)
+        && text.len() < 4294967295
+}
+
+// What each token of the text holds, with a semicolon after it.
+fn contents(alloc: Global, text: &str) -> Result<String, Fail> {
+    let mut out = String::new(alloc);
+    if text.len() > 65536 {
+        return Ok(out);
+    }
+    for token in lex(alloc, text)?.as_slice() {
+        if fits(text, token.span) {
+            out.push_str(token_text(alloc, text, token)?.as_str())?;
+        }
+        out.push(';')?;
+    }
+    Ok(out)
+}
+
+#[test]
+fn tokens_and_what_they_hold(rt: HostRuntime) -> Result<(), Fail> {
+    let held = contents(rt.alloc(), "FROM t-1 | KEEP a*,`é``b` | EVAL c = \"\\\"é\"")?;
+    assert_eq!(rt; held.as_str(), "FROM;t-1;|;KEEP;a*;,;é`b;|;EVAL;c;=;\"é;;");
+    Ok(())
+}
+
 #[test]
 fn laws_hold_of_every_text(_rt: HostRuntime) {
     pieces_join();
@@ -162,4 +321,6 @@ fn laws_hold_of_every_text(_rt: HostRuntime) {
     one_list();
     one_fault();
     not_both();
+    names_in_backticks();
+    texts_in_quotes();
 }
