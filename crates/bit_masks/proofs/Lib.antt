@@ -1,0 +1,5 @@
+pub mod Counts
+pub mod Parts
+pub mod Places
+pub mod Searches
+pub mod Stored

@@ -1,0 +1,87 @@
+-- Signed numbers by their bits: the tests that the kernels make are the plain ones.
+use Rattle.std.proofs.Common.{◌≡◌, ◌+◌, ◌-◌, ◌*◌, ◌%◌, ◌^◌, ◌≤◌, true, eqb, not, ◌||◌, ap, ◌∙◌, arith, w32, w64}
+use Rattle.std.proofs.lemmas.Bool.{lt-ltb, ltb-true}
+use Rattle.std.proofs.lemmas.Int.{ints, to_z-of_z, wrapping_add-bits, wrapping_sub-bits, wrapping_mul-bits, int_wrap_fits, fits_signed_mul}
+use Rattle.std.proofs.Math.Facts.{Fits-of_z, sfits_widen}
+use Rattle.std.specs.Int.{int_wrap}
+use Rattle.std.specs.Int.RustNames.{int_lt, int_le, unsigned_abs}
+use Rattle.std.specs.Ordering.{int_eq}
+use lib.IntN.{ℤ, pos, negsuc, ◌+ℤ◌, ◌-ℤ◌, ◌*ℤ◌}
+use mathlib.Core.Bool.{beq}
+use mir.Syntax.{Width}
+use mir.Val.{bits, hbits, of_z, to_z, SFits}
+use Rattle.num_kernels.specs.Numbers.{holds}
+
+pub holds_fits : (w : Width) (z : ℤ) → holds w z ≡ true → SFits w z
+holds_fits w (pos n) e = record { sfits = ltb-true n (2 ^ hbits w) e }
+holds_fits w (negsuc n) e = record { sfits = ltb-true n (2 ^ hbits w) e }
+
+pub fits_holds : (w : Width) (z : ℤ) → SFits w z → holds w z ≡ true
+fits_holds w (pos n) f = lt-ltb n (2 ^ hbits w) f.sfits
+fits_holds w (negsuc n) f = lt-ltb n (2 ^ hbits w) f.sfits
+
+module _ (w : Width) (x y : ℤ) (fx : SFits w x) (fy : SFits w y) where
+  pub lt_is : int_lt (to_z w (of_z w x)) (to_z w (of_z w y)) ≡ int_lt x y
+  lt_is = ap (λ (z : ℤ). int_lt z (to_z w (of_z w y))) (to_z-of_z w x fx) ∙ ap (int_lt x) (to_z-of_z w y fy)
+
+  pub le_is : int_le (to_z w (of_z w x)) (to_z w (of_z w y)) ≡ int_le x y
+  le_is = ap (λ (z : ℤ). int_le z (to_z w (of_z w y))) (to_z-of_z w x fx) ∙ ap (int_le x) (to_z-of_z w y fy)
+
+  -- the wrapping operations give the exact result where it fits
+  pub sum_value : holds w (x +ℤ y) ≡ true → to_z w ((of_z w x + of_z w y) % 2 ^ bits w) ≡ x +ℤ y
+  sum_value h = wrapping_add-bits w (of_z w x) (of_z w y) (Fits-of_z fx).fits (Fits-of_z fy).fits
+      ∙ ap (λ (z : ℤ). int_wrap w (z +ℤ to_z w (of_z w y))) (to_z-of_z w x fx) ∙ ap (λ (z : ℤ). int_wrap w (x +ℤ z)) (to_z-of_z w y fy)
+      ∙ int_wrap_fits w (x +ℤ y) (holds_fits w (x +ℤ y) h)
+
+  pub difference_value : holds w (x -ℤ y) ≡ true → to_z w ((of_z w x + (2 ^ bits w - of_z w y)) % 2 ^ bits w) ≡ x -ℤ y
+  difference_value h = wrapping_sub-bits w (of_z w x) (of_z w y) (Fits-of_z fx).fits (Fits-of_z fy).fits
+      ∙ ap (λ (z : ℤ). int_wrap w (z -ℤ to_z w (of_z w y))) (to_z-of_z w x fx) ∙ ap (λ (z : ℤ). int_wrap w (x -ℤ z)) (to_z-of_z w y fy)
+      ∙ int_wrap_fits w (x -ℤ y) (holds_fits w (x -ℤ y) h)
+
+  pub product_value : holds w (x *ℤ y) ≡ true → to_z w ((of_z w x * of_z w y) % 2 ^ bits w) ≡ x *ℤ y
+  product_value h = wrapping_mul-bits w (of_z w x) (of_z w y) (Fits-of_z fx).fits (Fits-of_z fy).fits
+      ∙ ap (λ (z : ℤ). int_wrap w (z *ℤ to_z w (of_z w y))) (to_z-of_z w x fx) ∙ ap (λ (z : ℤ). int_wrap w (x *ℤ z)) (to_z-of_z w y fy)
+      ∙ int_wrap_fits w (x *ℤ y) (holds_fits w (x *ℤ y) h)
+
+module _ (x y : ℤ) (fx : SFits w32 x) (fy : SFits w32 y) where
+  pub eq_is_32 : eqb (of_z w32 x) (of_z w32 y) ≡ int_eq x y
+  eq_is_32 = grind (arith, ints)
+
+  pub sum_fails_32 : not (beq (int_lt (to_z w32 (of_z w32 y)) (pos 0)) (int_lt (to_z w32 ((of_z w32 x + of_z w32 y) % 2 ^ 32)) (to_z w32 (of_z w32 x)))) ≡ not (holds w32 (x +ℤ y))
+  sum_fails_32 = grind (arith, ints)
+
+  pub difference_fails_32 : not (beq (int_lt (to_z w32 (of_z w32 y)) (pos 0)) (int_lt (to_z w32 (of_z w32 x)) (to_z w32 ((of_z w32 x + (2 ^ 32 - of_z w32 y)) % 2 ^ 32)))) ≡ not (holds w32 (x -ℤ y))
+  difference_fails_32 = grind (arith, ints)
+
+module _ (x y : ℤ) (fx : SFits w64 x) (fy : SFits w64 y) where
+  pub eq_is_64 : eqb (of_z w64 x) (of_z w64 y) ≡ int_eq x y
+  eq_is_64 = grind (arith, ints)
+
+  pub sum_fails_64 : not (beq (int_lt (to_z w64 (of_z w64 y)) (pos 0)) (int_lt (to_z w64 ((of_z w64 x + of_z w64 y) % 2 ^ 64)) (to_z w64 (of_z w64 x)))) ≡ not (holds w64 (x +ℤ y))
+  sum_fails_64 = grind (arith, ints)
+
+  pub difference_fails_64 : not (beq (int_lt (to_z w64 (of_z w64 y)) (pos 0)) (int_lt (to_z w64 (of_z w64 x)) (to_z w64 ((of_z w64 x + (2 ^ 64 - of_z w64 y)) % 2 ^ 64)))) ≡ not (holds w64 (x -ℤ y))
+  difference_fails_64 = grind (arith, ints)
+
+-- a number outside the width, by two comparisons
+pub outside_32 : (z : ℤ) → (int_lt z (negsuc 2147483647) || int_lt (pos 2147483647) z) ≡ not (holds w32 z)
+outside_32 z = grind (arith, ints)
+
+pub outside_64 : (z : ℤ) → (int_lt z (negsuc 9223372036854775807) || int_lt (pos 9223372036854775807) z) ≡ not (holds w64 z)
+outside_64 z = grind (arith, ints)
+
+abs_le : (w : Width) (x : ℤ) → SFits w x → unsigned_abs x ≤ 2 ^ hbits w
+abs_le w (pos a) f = let s = f.sfits in omega arith
+abs_le w (negsuc a) f = let s = f.sfits in omega arith
+
+module _ (x y : ℤ) (fx : SFits w32 x) (fy : SFits w32 y) where
+  wide_product : to_z w64 ((of_z w64 (to_z w32 (of_z w32 x)) * of_z w64 (to_z w32 (of_z w32 y))) % 2 ^ 64) ≡ x *ℤ y
+  wide_product =
+      ap (λ (z : ℤ). to_z w64 ((of_z w64 z * of_z w64 (to_z w32 (of_z w32 y))) % 2 ^ 64)) (to_z-of_z w32 x fx)
+      ∙ ap (λ (z : ℤ). to_z w64 ((of_z w64 x * of_z w64 z) % 2 ^ 64)) (to_z-of_z w32 y fy)
+      ∙ product_value w64 x y (sfits_widen tt fx) (sfits_widen tt fy)
+      (fits_holds w64 (x *ℤ y) (fits_signed_mul w64 x y (2 ^ 31) (2 ^ 31) (abs_le w32 x fx) (abs_le w32 y fy) (omega arith)))
+
+  pub product_fails_32 : (int_lt (to_z w64 ((of_z w64 (to_z w32 (of_z w32 x)) * of_z w64 (to_z w32 (of_z w32 y))) % 2 ^ 64)) (negsuc 2147483647)
+      || int_lt (pos 2147483647) (to_z w64 ((of_z w64 (to_z w32 (of_z w32 x)) * of_z w64 (to_z w32 (of_z w32 y))) % 2 ^ 64))) ≡ not (holds w32 (x *ℤ y))
+  product_fails_32 = ap (λ (z : ℤ). int_lt z (negsuc 2147483647) || int_lt (pos 2147483647) z) wide_product ∙ outside_32 (x *ℤ y)

@@ -1,0 +1,14 @@
+use Rattle.std.proofs.Common.{◌≡◌, ℕ, ◌<◌, ◌≤◌, ◌&&◌, length, w64}
+use Rattle.num_kernels.specs.Numbers.{fails, result_at}
+use Rattle.num_kernels.specs.Lanes.{at, set_at}
+use Rattle.num_kernels.proofs.longs.arith_rest.Given as goal
+
+abbrev pub invariant-loop-place : goal.invariant-loop-place
+invariant-loop-place g l = record {
+  same_length : length l.to ≡ length l.fn.to;
+  as_many : length l.failed ≡ length l.fn.failed;
+  untouched : (k : ℕ) → k < l.start → at l.to k ≡ at l.fn.to k;
+  failed_untouched : (k : ℕ) → k < l.start → set_at l.failed k ≡ set_at l.fn.failed k;
+  done : (k : ℕ) → l.start ≤ k → k < l.place → at l.to k ≡ result_at w64 g.row.OP (set_at l.valid k) (at l.left k) (at l.right k);
+  failed_done : (k : ℕ) → l.start ≤ k → k < l.place → set_at l.failed k ≡ (set_at l.valid k && fails w64 g.row.OP (at l.left k) (at l.right k));
+}
