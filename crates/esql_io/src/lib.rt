@@ -1,6 +1,7 @@
 //! The outside of the engine: files that are read by name, sinks that take bytes, and what is known of their faults.
 #![tactic(auto)]
 
+mod dir_files;
 mod files;
 mod memory_files;
 mod memory_sink;
@@ -9,6 +10,7 @@ mod std_sink;
 #[cfg(test)]
 mod tests;
 
+pub use dir_files::DirFiles;
 pub use files::{Failed, Files};
 pub use memory_files::{HeldFile, MemoryFiles};
 pub use memory_sink::MemorySink;

@@ -77,6 +77,7 @@ pub fn load_table<F: Files>(
     ensures loaded { IfOk result (λ table. IfSome (F.holds files.old) (λ bytes_of. IsLoaded columns.now (bytes_of file.now) table)) }
     ensures bad { IfErr result (λ error. IfRowFault error (λ bad. IfSome (F.holds files.old)
         (λ bytes_of. IsSomeAnd (bytes_of file.now) (λ bytes. (length bytes ≤ MAX_FILE) × (table_of columns.now bytes ≡ Err bad))))) }
+    ensures within { IfOk result (λ table. IfSome (F.holds files.old) (λ bytes_of. IfSome (bytes_of file.now) (λ bytes. length bytes ≤ MAX_FILE))) }
     ensures wide { IfOk result (λ table. IfSome table (All (λ row. length row ≡ length columns.now))) }
     ensures few { IfOk result (λ table. IfSome table (λ rows. length rows ≤ MAX_FILE)) }
     ensures kinds { IfOk result (λ table. IfSome table (λ rows. All IsLoadable columns.now → All (IsRowOf columns.now) rows)) }
