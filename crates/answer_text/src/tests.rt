@@ -103,8 +103,31 @@ fn refusals(rt: HostRuntime) -> Result<(), Fail> {
         refusal(rt.alloc(), "FROM t", 0, not_built())?.as_str(),
         "line 1:1: command not built\n"
     );
+    let message = unexpected_token(rt.alloc(), "+")?;
+    assert_eq!(rt;
+        refusal(rt.alloc(), "ROW a = +", 8, message.as_str())?.as_str(),
+        "line 1:9: unexpected [+]\n"
+    );
     assert_eq!(rt; out_of_memory(), "out of memory\n");
     assert!(rt; usage().starts_with("usage: esql [--data DIR]"));
+    Ok(())
+}
+
+#[test]
+fn messages_of_syntax(rt: HostRuntime) -> Result<(), Fail> {
+    for (message, want) in [
+        (longer_than_limit(), "query longer than 65536 bytes"),
+        (unexpected_character(), "unexpected character"),
+        (not_closed(), "text or name is not closed"),
+        (unknown_escape(), "unknown escape"),
+        (comment_not_closed(), "comment is not closed"),
+        (number_too_large(), "number is too large"),
+        (unexpected_end(), "unexpected end of query"),
+        (nested_too_deep(), "expression nested deeper than 100"),
+        (too_many_commands(), "more than 200 commands"),
+    ] {
+        assert_eq!(rt; message, want);
+    }
     Ok(())
 }
 

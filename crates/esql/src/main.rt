@@ -2,7 +2,7 @@
 #![tactic(auto)]
 
 use answer_text::{out_of_memory, usage};
-use esql_io::{MemoryFiles, Sink, StdSink, write_whole};
+use esql_io::{DirFiles, Sink, StdSink, write_whole};
 use esql_run::{Status, run};
 use esql_types::{CrateMaker, Seq};
 use std::process::ExitCode;
@@ -15,7 +15,7 @@ fn main(rt: HostRuntime) -> ExitCode {
     let mut err = StdSink::new(rt.stderr());
     let status = match words(&rt) {
         Ok(words) => {
-            let mut files = MemoryFiles::new(Seq::new(alloc), 1, Seq::new(alloc));
+            let mut files = DirFiles::new(&rt);
             let mut maker = CrateMaker::new(Seq::new(alloc));
             let words = words.as_slice();
             run(alloc, words, &mut files, &mut maker, &mut out, &mut err)

@@ -2,9 +2,18 @@
 #![tactic(auto)]
 
 mod expr;
+mod laws;
 mod nodes;
+mod numbering;
 mod query;
+#[cfg(test)]
+mod tests;
 
 pub use expr::{BinaryOp, Expr, Form};
+pub use laws::{numbering_keeps_fit, numbering_keeps_spans, numbers_in_order};
 pub use nodes::{NodeAt, nodes_of};
-pub use query::{Command, CommandKind, Field, NameAt, Query, SourceCommand};
+pub use numbering::numbered_query;
+pub use query::{
+    Command, CommandKind, Condition, EnrichItem, Field, NameAt, NamePattern, Query, RenamePair,
+    SortKey, SourceCommand, StatsField, TextAt,
+};

@@ -1,8 +1,10 @@
-ghost use Rattle.std.specs.Prelude.{◌≡◌, ◌++◌, IfOk, OnOk};
+ghost use Rattle.std.specs.Prelude.{◌≡◌, [], ◌∷◌, ◌++◌, IfOk, OnOk};
 ghost use Rattle.std.specs.List.{flat_map};
-ghost use Rattle.esql_ast.specs.Nodes.{nodes_of, nodes_of_expr, nodes_of_field, nodes_of_command, nodes_of_source};
+ghost use Rattle.esql_ast.specs.Nodes.{nodes_of, nodes_of_expr, nodes_of_form, nodes_of_field, nodes_of_stats, nodes_of_key, nodes_of_condition, nodes_of_kind, nodes_of_command, nodes_of_source};
 
-use crate::{Command, CommandKind, Expr, Field, Form, Query, SourceCommand};
+use crate::{
+    Command, CommandKind, Condition, Expr, Field, Form, Query, SortKey, SourceCommand, StatsField,
+};
 use esql_types::{NodeId, Seq, Span};
 use std::alloc::{AllocError, Global};
 
@@ -28,23 +30,48 @@ pub fn nodes_of(alloc: Global, query: &Query) -> Result<Seq<NodeAt>, AllocError>
 fn push_source(nodes: &mut Seq<NodeAt>, source: &SourceCommand) -> Result<(), AllocError>
     ensures { OnOk result (nodes.new ≡ nodes.old ++ nodes_of_source source.now) }
 {
-    let SourceCommand::OneRow { node, span, fields } = source;
-    nodes.push(NodeAt {
-        node: *node,
-        span: *span,
-    })?;
-    push_fields(nodes, fields)
+    match source {
+        SourceCommand::Tables { node, span, .. } => push_node(nodes, *node, *span),
+        SourceCommand::OneRow { node, span, fields } => {
+            push_node(nodes, *node, *span)?;
+            push_fields(nodes, fields)
+        }
+    }
+}
+
+fn push_node(nodes: &mut Seq<NodeAt>, node: NodeId, span: Span) -> Result<(), AllocError>
+    ensures { OnOk result (nodes.new ≡ nodes.old ++ record { node = node; span = span } ∷ []) }
+{
+    nodes.push(NodeAt { node, span })
 }
 
 fn push_command(nodes: &mut Seq<NodeAt>, command: &Command) -> Result<(), AllocError>
     ensures { OnOk result (nodes.new ≡ nodes.old ++ nodes_of_command command.now) }
 {
-    nodes.push(NodeAt {
-        node: command.node,
-        span: command.span,
-    })?;
-    match &command.kind {
+    push_node(nodes, command.node, command.span)?;
+    push_kind(nodes, &command.kind)
+}
+
+fn push_kind(nodes: &mut Seq<NodeAt>, kind: &CommandKind) -> Result<(), AllocError>
+    ensures { OnOk result (nodes.new ≡ nodes.old ++ nodes_of_kind kind.now) }
+{
+    match kind {
+        CommandKind::Filter { condition } => push_expr(nodes, condition),
         CommandKind::Eval { fields } => push_fields(nodes, fields),
+        CommandKind::Sort { keys } => push_keys(nodes, keys),
+        CommandKind::Stats { fields, groups } => {
+            push_stats_fields(nodes, fields)?;
+            push_fields(nodes, groups)
+        }
+        CommandKind::Dissect { input, .. } => push_expr(nodes, input),
+        CommandKind::Grok { input, .. } => push_expr(nodes, input),
+        CommandKind::Keep { .. }
+        | CommandKind::Drop { .. }
+        | CommandKind::Rename { .. }
+        | CommandKind::Limit { .. }
+        | CommandKind::Expand { .. }
+        | CommandKind::Enrich { .. }
+        | CommandKind::Join { .. } => Ok(()),
     }
 }
 
@@ -57,18 +84,75 @@ fn push_fields(nodes: &mut Seq<NodeAt>, fields: &Seq<Field>) -> Result<(), Alloc
     Ok(())
 }
 
+fn push_keys(nodes: &mut Seq<NodeAt>, keys: &Seq<SortKey>) -> Result<(), AllocError>
+    ensures { OnOk result (nodes.new ≡ nodes.old ++ flat_map nodes_of_key keys.now) }
+{
+    for key in keys.as_slice() {
+        push_expr(nodes, &key.expr)?;
+    }
+    Ok(())
+}
+
+fn push_stats_fields(nodes: &mut Seq<NodeAt>, fields: &Seq<StatsField>) -> Result<(), AllocError>
+    ensures { OnOk result (nodes.new ≡ nodes.old ++ flat_map nodes_of_stats fields.now) }
+{
+    for stats in fields.as_slice() {
+        push_expr(nodes, &stats.field.expr)?;
+        push_condition(nodes, &stats.condition)?;
+    }
+    Ok(())
+}
+
+fn push_condition(nodes: &mut Seq<NodeAt>, condition: &Option<Condition>) -> Result<(), AllocError>
+    ensures { OnOk result (nodes.new ≡ nodes.old ++ nodes_of_condition condition.now) }
+{
+    match condition {
+        None => Ok(()),
+        Some(condition) => {
+            push_node(nodes, condition.node, condition.expr.span)?;
+            push_expr(nodes, &condition.expr)
+        }
+    }
+}
+
+#[cycle(push)]
 fn push_expr(nodes: &mut Seq<NodeAt>, expr: &Expr) -> Result<(), AllocError>
     ensures { OnOk result (nodes.new ≡ nodes.old ++ nodes_of_expr expr.now) }
 {
-    nodes.push(NodeAt {
-        node: expr.node,
-        span: expr.span,
-    })?;
-    match &expr.form {
+    push_node(nodes, expr.node, expr.span)?;
+    push_form(nodes, &expr.form)
+}
+
+#[cycle(push)]
+fn push_form(nodes: &mut Seq<NodeAt>, form: &Form) -> Result<(), AllocError>
+    ensures { OnOk result (nodes.new ≡ nodes.old ++ nodes_of_form form.now) }
+{
+    match form {
         Form::Constant { .. } | Form::List { .. } | Form::Column { .. } => Ok(()),
+        Form::Group { inner } => push_expr(nodes, inner.get()),
+        Form::Minus { arg } => push_expr(nodes, arg.get()),
+        Form::Not { arg } => push_expr(nodes, arg.get()),
+        Form::IsNull { arg, .. } => push_expr(nodes, arg.get()),
+        Form::Cast { arg, .. } => push_expr(nodes, arg.get()),
+        Form::Like { left, .. } => push_expr(nodes, left.get()),
+        Form::Call { args, .. } => push_exprs(nodes, args),
         Form::Binary { left, right, .. } => {
             push_expr(nodes, left.get())?;
             push_expr(nodes, right.get())
         }
+        Form::Within { left, items, .. } => {
+            push_expr(nodes, left.get())?;
+            push_exprs(nodes, items)
+        }
     }
+}
+
+#[cycle(push)]
+fn push_exprs(nodes: &mut Seq<NodeAt>, exprs: &Seq<Expr>) -> Result<(), AllocError>
+    ensures { OnOk result (nodes.new ≡ nodes.old ++ flat_map nodes_of_expr exprs.now) }
+{
+    for expr in exprs.as_slice() {
+        push_expr(nodes, expr)?;
+    }
+    Ok(())
 }

@@ -1,205 +1,189 @@
--- The spans of a tree are parts of the text.
-use Rattle.std.proofs.Common.{◌≡◌, ℕ, ◌+◌, ◌≤◌, List, [], ◌∷◌, ◌++◌, length, reverse, sym, ◌∙◌, ap, subst, arith, append_assoc}
-use Rattle.std.specs.List.{All, flat_map}
-use Rattle.std.proofs.lemmas.List.{reverse-append, reverse-reverse}
-use Rattle.std.proofs.lemmas.List.Elements.{All-nil, All-cons, All-append, All-same}
+-- The spans of the query that the tokens of a text spell are parts of the text.
+use Rattle.std.proofs.Common.{◌≡◌, ℕ, ◌≤◌, List, [], ◌∷◌, ◌++◌, length, Option, Some, None, All, refl, subst}
+use Rattle.std.specs.List.{flat_map}
+use Rattle.std.proofs.lemmas.List.Elements.{All-nil, All-cons, All-append}
+use Rattle.esql_types.specs.declared.places.Span.{Span}
 use Rattle.esql_types.specs.Spans.{SpanFits}
 use Rattle.esql_lex.specs.declared.token.Token.{Token}
+use Rattle.esql_lex.specs.declared.token.Reserved.TheVariants as word
+use Rattle.esql_lex.specs.declared.token.Sign.TheVariants as sign
 use Rattle.esql_lex.specs.Tokens.{FitsText}
 use Rattle.esql_ast.specs.declared.nodes.NodeAt.{NodeAt}
-use Rattle.esql_ast.specs.declared.expr.Expr.{Expr}
-use Rattle.esql_ast.specs.declared.query.Field.{Field}
 use Rattle.esql_ast.specs.declared.query.Command.{Command}
-use Rattle.esql_ast.specs.declared.query.Query.{Query}
-use Rattle.esql_ast.specs.Fits.{FieldFits, FieldsFit, KindFits, QueryFits}
-use Rattle.esql_ast.specs.Nodes.{nodes_of_expr, nodes_of_field, nodes_of_command, nodes_of_source}
-use Rattle.esql_parse.specs.declared.shape.Shape.{Shape}
-use Rattle.esql_parse.specs.declared.shape.Shape.TheVariants.{Closing, Bar, Comma, Plus, End}
-use Rattle.esql_parse.specs.declared.written.Part.{Part}
-use Rattle.esql_parse.specs.declared.written.Part.TheVariants as part
-use Rattle.esql_parse.specs.declared.written.WrittenField.{WrittenField}
-use Rattle.esql_parse.specs.declared.written.WrittenCommand.{WrittenCommand}
-use Rattle.esql_parse.specs.declared.written.Written.{Written}
-use Rattle.esql_parse.specs.Grammar.{spelled_chain, spelled_number, spelled_part, spelled_name, spelled_field, spelled_command, spelled_commands, spelled}
-use Rattle.esql_parse.specs.Trees.{join, span_of, part_span, part_tree, added, sum_size, sum_tree, field_size, field_expr, field_tree, field_trees, command_span, command_size, command_fields, source_tree, command_tree, command_trees, tree_of}
-use Rattle.esql_parse.specs.Spells.{Spells}
-use Rattle.esql_parse.proofs.Complete.{parts_front, fields_front, later_commands}
-use Rattle.esql_parse.proofs.Sound.{parts_front-push}
-use Rattle.esql_parse.proofs.Nodes.{node_at, nodes_of_part, nodes_of_added}
-use Rattle.esql_parse.proofs.Places.{Placed, Stands, end_of, stands_left, stands_right, end_of-append, end_le, join_placed, placed_within, stands_shapes}
+use Rattle.esql_ast.specs.declared.query.CommandKind.TheVariants as command
+use Rattle.esql_ast.specs.declared.query.Field.{Field}
+use Rattle.esql_ast.specs.declared.query.NameAt.{NameAt}
+use Rattle.esql_ast.specs.declared.query.SortKey.{SortKey}
+use Rattle.esql_ast.specs.declared.query.StatsField.{StatsField}
+use Rattle.esql_ast.specs.Fits.{FieldFits, FieldsFit, KindFits, SourceFits, QueryFits}
+use Rattle.esql_ast.specs.Laws.{as_it_was}
+use Rattle.esql_ast.specs.Nodes.{nodes_of_expr, nodes_of_field, nodes_of_stats, nodes_of_key, nodes_of_kind, nodes_of_command, nodes_of_source}
+use Rattle.esql_ast.specs.Numbering.{numbered_query}
+use Rattle.esql_ast.proofs.KeepsFit as numbering
+use Rattle.esql_expr.specs.declared.lexeme.Lexeme.{Lexeme}
+use Rattle.esql_expr.specs.declared.lexeme.Lexeme.TheVariants.{Plain, Text, Word, Sign as Mark, End}
+use Rattle.esql_expr.specs.Ends.{span_at, last_to}
+use Rattle.esql_expr.specs.Parts.{join, span_of}
+use Rattle.esql_expr.specs.Stands.{Stands}
+use Rattle.esql_expr.proofs.Stands.{front, back, first_fits, run_fits, same_ends_fit, lexemes_stand}
+use Rattle.esql_expr.proofs.Fits.{NodesFit, no_nodes, node_then, nodes_then, flat_fits, phrase_span_fits, phrase_fits}
+use Rattle.esql_parse.specs.declared.state.Body.{Body}
+use Rattle.esql_parse.specs.declared.state.Body.TheVariants as body
+use Rattle.esql_parse.specs.declared.state.CommandWord.{CommandWord}
+use Rattle.esql_parse.specs.declared.state.Written.{Written}
+use Rattle.esql_parse.specs.Grammar.{Listed, first_item, next_item, FieldLine, field_line, StatsLine, open_line, where_line, KeyLine, key_line, TableLine, table_line, ByFields, no_groups, by_fields, Says, from_says, row_says, where_says, eval_says, keep_says, drop_says, rename_says, sort_says, limit_says, expand_says, stats_says, stats_by_says, dissect_says, grok_says, enrich_says, join_says, last_span, CommandLine, command_line, node_zero, begin_with, go_on_with, Piped, source_line, pipe_line, SpellsQuery, query_line}
+use Rattle.esql_parse.specs.Spells.{lexemes_of}
 
-abbrev NodeFits : List ℕ → NodeAt → Type 0
-NodeFits text place = SpanFits text place.span
+-- what each item has whose lexemes stand in the text, all items of a list have
+all_listed : {A : Type 0} {One : List Lexeme → A → ℕ → Type 0} (text : List ℕ) (P : A → Type 0)
+    → ((w : List Lexeme) (a : A) (d : ℕ) → One w a d → Stands text w → P a)
+    → {w : List Lexeme} {items : List A} {d : ℕ} → Listed One w items d → Stands text w → All P items
+all_listed text P each (first_item {w = w} {a = a} {d = d} one) s = All-cons P a [] (each w a d one s) (All-nil P)
+all_listed text P each (next_item comma {u = u} {w = w} {items = items} {a = a} {e = e} those one) s =
+    let last = each w a e one (back (Mark sign.Comma comma ∷ []) w (back u (Mark sign.Comma comma ∷ w) s)) in
+    All-append P items (a ∷ []) (all_listed text P each those (front u (Mark sign.Comma comma ∷ w) s)) (All-cons P a [] last (All-nil P))
 
-part_placed : (text : List ℕ) (from : ℕ) (part : Part) → Stands text from (spelled_part part) → Placed text from (part_span part) (end_of from (spelled_part part))
-part_placed text from (part.Number number) h = h.0
-part_placed text from (part.Column name) h = h.0
-part_placed text from (part.List opening values closing) h =
-    let within : List Shape = spelled_chain Comma spelled_number values in
-    let end : end_of opening.to (within ++ Closing closing ∷ []) ≡ closing.to = end_of-append opening.to within (Closing closing ∷ []) in
-    let middle : opening.to ≤ end_of opening.to within = end_le text opening.to within (stands_left text opening.to within (Closing closing ∷ []) h.1) in
-    let last : Placed text (end_of opening.to within) closing closing.to = (stands_right text opening.to within (Closing closing ∷ []) h.1).0 in
-    placed_within text from from closing.to (end_of opening.to (within ++ Closing closing ∷ [])) (join opening closing)
-    (join_placed text from (end_of opening.to within) closing.to opening closing (placed_within text from from opening.to (end_of opening.to within) opening h.0 (omega arith) middle) last)
-    (omega arith) (omega arith)
+field_fits : (text : List ℕ) (w : List Lexeme) (f : Field) (d : ℕ) → FieldLine w f d → Stands text w → FieldFits text f
+field_fits text _ _ _ (field_line {m = m} {w = w} name q) s =
+    let after = back m w s in
+    record { span = phrase_span_fits q after; expr = phrase_fits q after }
 
--- an expression and its nodes are parts of the text, the expression between two places
-record SumFits (text : List ℕ) (from : ℕ) (expr : Expr) (to : ℕ) : Type 0 where
-  placed : Placed text from (span_of expr) to
-  nodes : All (NodeFits text) (nodes_of_expr expr)
+fields_fit : {text : List ℕ} {w : List Lexeme} {fields : List Field} {d : ℕ} → Listed FieldLine w fields d → Stands text w → FieldsFit text fields
+fields_fit {text} those s = all_listed text (FieldFits text) (field_fits text) those s
 
-part_fits : (text : List ℕ) (from node : ℕ) (part : Part) → Stands text from (spelled_part part) → SumFits text from (part_tree node part) (end_of from (spelled_part part))
-part_fits text from node part h =
-    let placed = part_placed text from part h in
+field_nodes_fit : {text : List ℕ} (fields : List Field) → FieldsFit text fields → NodesFit text (flat_map nodes_of_field fields)
+field_nodes_fit fields fits = flat_fits nodes_of_field fields (λ k d within. (fits k d within).expr)
+
+-- the span of a field, and the nodes of it and of its condition
+pub record StatsFits (text : List ℕ) (stats : StatsField) : Type 0 where
+  pub field : FieldFits text stats.field
+  pub nodes : NodesFit text (nodes_of_stats stats)
+
+stats_fits : (text : List ℕ) (w : List Lexeme) (stats : StatsField) (d : ℕ) → StatsLine w stats d → Stands text w → StatsFits text stats
+stats_fits text w _ d (open_line {f = f} line) s =
+    let field = field_fits text w f d line s in
+    record { field = field; nodes = nodes_then (nodes_of_field f) [] field.expr (no_nodes text) }
+stats_fits text _ _ _ (where_line where_ {u = u} {w = w} {f = f} {d = d} {p = p} line is q) s =
+    let field = field_fits text u f d line (front u (Plain where_ ∷ w) s) in
+    let after = back (Plain where_ ∷ []) w (back u (Plain where_ ∷ w) s) in
+    let own : NodeAt = record { node = node_zero; span = span_of p } in
+    record { field = field; nodes = nodes_then (nodes_of_field f) (own ∷ nodes_of_expr p.expr) field.expr (node_then own (nodes_of_expr p.expr) (phrase_span_fits q after) (phrase_fits q after)) }
+
+key_fits : (text : List ℕ) (w : List Lexeme) (key : SortKey) (d : ℕ) → KeyLine w key d → Stands text w → NodesFit text (nodes_of_key key)
+key_fits text _ _ _ (key_line {w = w} {m = m} {k = k} q _ _) s = phrase_fits q (front w (m ++ k) s)
+
+table_fits : (text : List ℕ) (w : List Lexeme) (table : NameAt) (d : ℕ) → TableLine w table d → Stands text w → SpanFits text table.span
+table_fits text w table d (table_line name) s = first_fits _ [] s
+
+groups_fit : {text : List ℕ} {w : List Lexeme} {groups : List Field} {d : ℕ} → ByFields w groups d → Stands text w → FieldsFit text groups
+groups_fit {text} no_groups s = All-nil (FieldFits text)
+groups_fit (by_fields by_ {w = w} those) s = fields_fit those (back (Word word.By by_ ∷ []) w s)
+
+-- what a command says fits the text
+abbrev pub BodyFits : List ℕ → Body → Type 0
+BodyFits text (body.From tables) = All (λ (table : NameAt). SpanFits text table.span) tables
+BodyFits text (body.Row fields) = FieldsFit text fields
+BodyFits text (body.Command kind) = NodesFit text (nodes_of_kind kind) × KindFits text kind
+
+stats_say : {text : List ℕ} (fields : List StatsField) (groups : List Field) → All (StatsFits text) fields → FieldsFit text groups → BodyFits text (body.Command (command.Stats fields groups))
+stats_say fields groups fits by = (
+  nodes_then (flat_map nodes_of_stats fields) (flat_map nodes_of_field groups) (flat_fits nodes_of_stats fields (λ k d within. (fits k d within).nodes)) (field_nodes_fit groups by),
+  ((λ k d within. (fits k d within).field), by),
+)
+
+says_fits : {text : List ℕ} {begin : CommandWord} {w : List Lexeme} {b : Body} {d : ℕ} → Says begin w b d → Stands text w → BodyFits text b
+says_fits {text} (from_says those) s = all_listed text (λ (table : NameAt). SpanFits text table.span) (table_fits text) those s
+says_fits (row_says those) s = fields_fit those s
+says_fits (where_says q) s = (phrase_fits q s, tt)
+says_fits (eval_says {fields = fields} those) s = let fits = fields_fit those s in (field_nodes_fit fields fits, fits)
+says_fits {text} (keep_says those) s = (no_nodes text, tt)
+says_fits {text} (drop_says those) s = (no_nodes text, tt)
+says_fits {text} (rename_says those) s = (no_nodes text, tt)
+says_fits {text} (sort_says {keys = keys} those) s =
+    (flat_fits nodes_of_key keys (all_listed text (λ (key : SortKey). NodesFit text (nodes_of_key key)) (key_fits text) those s), tt)
+says_fits {text} (limit_says count at) s = (no_nodes text, tt)
+says_fits {text} (expand_says name) s = (no_nodes text, tt)
+says_fits {text} (stats_says {w = w} {v = v} {fields = fields} {groups = groups} those by) s =
+    stats_say fields groups (all_listed text (StatsFits text) (stats_fits text) those (front w v s)) (groups_fit by (back w v s))
+says_fits {text} (stats_by_says by_ {w = w} {groups = groups} those) s = stats_say [] groups (All-nil (StatsFits text)) (fields_fit those (back (Word word.By by_ ∷ []) w s))
+says_fits (dissect_says {w = w} {v = v} pattern q _) s = (phrase_fits q (front w (Text pattern ∷ v) s), tt)
+says_fits (grok_says {w = w} pattern q) s = (phrase_fits q (front w (Text pattern ∷ []) s), tt)
+says_fits {text} (enrich_says policy on items) s = (no_nodes text, tt)
+says_fits {text} (join_says join_ table on is name) s = (no_nodes text, tt)
+
+last_span_to : (x : Lexeme) (w : List Lexeme) → last_to (x ∷ w) ≡ (last_span (span_at x) w).to
+last_span_to x [] = refl
+last_span_to x (y ∷ w) = last_span_to y w
+
+-- the span of a command is a part of the text, and what it says fits
+command_fits : {text : List ℕ} {w : List Lexeme} {b : Body} {span : Span} {d : ℕ} → CommandLine w b span d → Stands text w → SpanFits text span × BodyFits text b
+command_fits (command_line name {w = w} is says) s = (
+  same_ends_fit (join name.span (last_span name.span w)) refl (last_span_to (Plain name) w) (run_fits (Plain name) w s),
+  says_fits says (back (Plain name ∷ []) w s),
+)
+
+pub record WrittenFits (text : List ℕ) (written : Written) : Type 0 where
+  pub source_nodes : NodesFit text (nodes_of_source written.source)
+  pub source : SourceFits text written.source
+  pub command_nodes : All (λ (c : Command). NodesFit text (nodes_of_command c)) written.commands
+  pub commands : All (λ (c : Command). KindFits text c.kind) written.commands
+
+-- what is written so far, if anything is, fits the text
+abbrev pub MaybeFits : List ℕ → Option Written → Type 0
+MaybeFits text None = Unit {0}
+MaybeFits text (Some written) = WrittenFits text written
+
+begin_fits : {text : List ℕ} (b : Body) (span : Span) → SpanFits text span → BodyFits text b → MaybeFits text (begin_with b span)
+begin_fits {text} (body.From tables) span own fits = record {
+  source_nodes = node_then (record { node = node_zero; span = span }) [] own (no_nodes text);
+  source = fits;
+  command_nodes = All-nil (λ (c : Command). NodesFit text (nodes_of_command c));
+  commands = All-nil (λ (c : Command). KindFits text c.kind);
+}
+begin_fits {text} (body.Row fields) span own fits = record {
+  source_nodes = node_then (record { node = node_zero; span = span }) (flat_map nodes_of_field fields) own (field_nodes_fit fields fits);
+  source = fits;
+  command_nodes = All-nil (λ (c : Command). NodesFit text (nodes_of_command c));
+  commands = All-nil (λ (c : Command). KindFits text c.kind);
+}
+begin_fits (body.Command kind) span own fits = tt
+
+go_on_fits : {text : List ℕ} (written : Written) (b : Body) (span : Span) → WrittenFits text written → SpanFits text span → BodyFits text b → MaybeFits text (go_on_with written b span)
+go_on_fits written (body.From tables) span before own fits = tt
+go_on_fits written (body.Row fields) span before own fits = tt
+go_on_fits {text} written (body.Command kind) span before own fits =
+    let P : Command → Type 0 = λ c. NodesFit text (nodes_of_command c) in
+    let Q : Command → Type 0 = λ c. KindFits text c.kind in
+    let c : Command = record { node = node_zero; span = span; kind = kind } in
+    let nodes : P c = node_then (record { node = node_zero; span = span }) (nodes_of_kind kind) own fits.0 in
     record {
-      placed = placed;
-      nodes = All-same (NodeFits text) (nodes_of_expr (part_tree node part)) (node_at node (part_span part) ∷ []) (nodes_of_part node part)
-          (All-cons (NodeFits text) (node_at node (part_span part)) [] placed.fits (All-nil (NodeFits text)));
+      source_nodes = before.source_nodes;
+      source = before.source;
+      command_nodes = All-append P written.commands (c ∷ []) before.command_nodes (All-cons P c [] nodes (All-nil P));
+      commands = All-append Q written.commands (c ∷ []) before.commands (All-cons Q c [] fits.1 (All-nil Q));
     }
 
-added_fits : (text : List ℕ) (from middle to node : ℕ) (left right : Expr) → SumFits text from left middle → SumFits text middle right to → SumFits text from (added node left right) to
-added_fits text from middle to node left right l r =
-    let placed = join_placed text from middle to (span_of left) (span_of right) l.placed r.placed in
-    let place : NodeAt = node_at node (join (span_of left) (span_of right)) in
+piped_fits : {text : List ℕ} {w : List Lexeme} {written : Written} {d : ℕ} → Piped w written d → Stands text w → WrittenFits text written
+piped_fits {text} (source_line {b = b} {span = span} line e) s =
+    let fits = command_fits line s in
+    subst (λ (o : Option Written). MaybeFits text o) e (begin_fits b span fits.0 fits.1)
+piped_fits {text} (pipe_line bar {u = u} {w = w} {b = b} {span = span} {before = before} those line e) s =
+    let fits = command_fits line (back (Mark sign.Bar bar ∷ []) w (back u (Mark sign.Bar bar ∷ w) s)) in
+    let so_far = piped_fits those (front u (Mark sign.Bar bar ∷ w) s) in
+    subst (λ (o : Option Written). MaybeFits text o) e (go_on_fits before b span so_far fits.0 fits.1)
+
+-- where lexemes that spell a query stand in a text, the spans of the query are parts of it
+pub query_fits : {text : List ℕ} {w : List Lexeme} {written : Written} {d : ℕ} → SpellsQuery w written d → Stands text w → QueryFits text (as_it_was written.source written.commands)
+query_fits {written = written} (query_line end {w = w} those) s =
+    let fits = piped_fits those (front w (End end ∷ []) s) in
     record {
-      placed = placed;
-      nodes = All-same (NodeFits text) (nodes_of_expr (added node left right)) (place ∷ (nodes_of_expr left ++ nodes_of_expr right)) (nodes_of_added node left right)
-          (All-cons (NodeFits text) place (nodes_of_expr left ++ nodes_of_expr right) placed.fits
-          (All-append (NodeFits text) (nodes_of_expr left) (nodes_of_expr right) l.nodes r.nodes));
+      nodes = nodes_then (nodes_of_source written.source) (flat_map nodes_of_command written.commands) fits.source_nodes (flat_fits nodes_of_command written.commands fits.command_nodes);
+      source = fits.source;
+      commands = fits.commands;
     }
 
-expr_within : (text : List ℕ) (from to to' : ℕ) (expr : Expr) → SumFits text from expr to → to ≡ to' → SumFits text from expr to'
-expr_within text from to to' expr h e = subst (λ to. SumFits text from expr to) e h
-
--- the parts before the last in written order, each with its plus
-front_of : (front : List Part) (before : Part) → parts_front (reverse (before ∷ front)) ≡ (parts_front (reverse front) ++ spelled_part before) ++ Plus ∷ []
-front_of front before = ap parts_front (reverse-append (before ∷ []) front) ∙ parts_front-push (reverse front) before
-
-sum_fits : (text : List ℕ) (from node : ℕ) (front : List Part) (last : Part) → Stands text from (parts_front (reverse front) ++ spelled_part last)
-    → SumFits text from (sum_tree node front last) (end_of from (parts_front (reverse front) ++ spelled_part last))
-sum_fits text from node [] last h = part_fits text from node last h
-sum_fits text from node (before ∷ front) last h =
-    let left : List Shape = parts_front (reverse front) ++ spelled_part before in
-    let e : parts_front (reverse (before ∷ front)) ++ spelled_part last ≡ (left ++ Plus ∷ []) ++ spelled_part last = ap (λ shapes. shapes ++ spelled_part last) (front_of front before) in
-    let stands : Stands text from ((left ++ Plus ∷ []) ++ spelled_part last) = subst (λ shapes. Stands text from shapes) e h in
-    let plus : end_of from (left ++ Plus ∷ []) ≡ end_of from left = end_of-append from left (Plus ∷ []) in
-    let right : Stands text (end_of from left) (spelled_part last) = subst (λ middle. Stands text middle (spelled_part last)) plus (stands_right text from (left ++ Plus ∷ []) (spelled_part last) stands) in
-    let end : end_of (end_of from left) (spelled_part last) ≡ end_of from (parts_front (reverse (before ∷ front)) ++ spelled_part last)
-    = sym (ap (end_of from) e ∙ end_of-append from (left ++ Plus ∷ []) (spelled_part last) ∙ ap (λ middle. end_of middle (spelled_part last)) plus) in
-    expr_within text from _ _ _
-    (added_fits text from (end_of from left) (end_of (end_of from left) (spelled_part last)) node (sum_tree (node + 1) front before) (part_tree (node + 1 + sum_size front) last)
-    (sum_fits text from (node + 1) front before (stands_left text from left (Plus ∷ []) (stands_left text from (left ++ Plus ∷ []) (spelled_part last) stands)))
-    (part_fits text (end_of from left) (node + 1 + sum_size front) last right))
-    end
-
-field_fits : (text : List ℕ) (from node : ℕ) (field : WrittenField) → Stands text from (spelled_field field)
-    → SumFits text (end_of from (spelled_name field.name)) (field_expr node field) (end_of from (spelled_field field))
-field_fits text from node field h =
-    let sum : List Shape = parts_front field.sum.front ++ spelled_part field.sum.last in
-    let e : parts_front (reverse (reverse field.sum.front)) ++ spelled_part field.sum.last ≡ sum = ap (λ front. parts_front front ++ spelled_part field.sum.last) (reverse-reverse field.sum.front) in
-    let start : ℕ = end_of from (spelled_name field.name) in
-    let stands : Stands text start sum = stands_right text from (spelled_name field.name) sum h in
-    expr_within text start _ _ _
-    (sum_fits text start node (reverse field.sum.front) field.sum.last (subst (λ shapes. Stands text start shapes) (sym e) stands))
-    (ap (end_of start) e ∙ sym (end_of-append from (spelled_name field.name) sum))
-
--- fields and their nodes are parts of the text
-record FieldsStand (text : List ℕ) (fields : List Field) : Type 0 where
-  nodes : All (NodeFits text) (flat_map nodes_of_field fields)
-  each : FieldsFit text fields
-
-no_fields : (text : List ℕ) → FieldsStand text []
-no_fields text = record { nodes = All-nil (NodeFits text); each = All-nil (FieldFits text) }
-
-field_more : (text : List ℕ) (from node : ℕ) (field : WrittenField) (fields : List Field) → Stands text from (spelled_field field) → FieldsStand text fields
-    → FieldsStand text (field_tree node field ∷ fields)
-field_more text from node field fields h more =
-    let fits = field_fits text from node field h in
-    record {
-      nodes = All-append (NodeFits text) (nodes_of_field (field_tree node field)) (flat_map nodes_of_field fields) fits.nodes more.nodes;
-      each = All-cons (FieldFits text) (field_tree node field) fields (record { span = fits.placed.fits; expr = fits.nodes }) more.each;
-    }
-
-fields_fit : (text : List ℕ) (from node : ℕ) (front : List WrittenField) (last : WrittenField) → Stands text from (fields_front front ++ spelled_field last)
-    → FieldsStand text (field_trees node (front ++ last ∷ []))
-fields_fit text from node [] last h = field_more text from node last [] h (no_fields text)
-fields_fit text from node (field ∷ front) last h =
-    let first : List Shape = spelled_field field ++ Comma ∷ [] in
-    let stands : Stands text from (first ++ (fields_front front ++ spelled_field last)) = subst (λ shapes. Stands text from shapes) (append_assoc first (fields_front front) (spelled_field last)) h in
-    field_more text from node field (field_trees (node + field_size field) (front ++ last ∷ []))
-    (stands_left text from (spelled_field field) (Comma ∷ []) (stands_left text from first (fields_front front ++ spelled_field last) stands))
-    (fields_fit text (end_of from first) (node + field_size field) front last (stands_right text from first (fields_front front ++ spelled_field last) stands))
-
--- a command, its fields and its nodes are parts of the text
-record CommandStands (text : List ℕ) (node : ℕ) (command : WrittenCommand) : Type 0 where
-  span : SpanFits text (command_span command)
-  fields : FieldsStand text (command_fields node command)
-
--- the last part of a command
-last_placed : (text : List ℕ) (from : ℕ) (front : List WrittenField) (last : WrittenField) → Stands text from (fields_front front ++ spelled_field last)
-    → (to : ℕ) × Placed text from (part_span last.sum.last) to
-last_placed text from front last h =
-    let field : ℕ = end_of from (fields_front front) in
-    let name : ℕ = end_of field (spelled_name last.name) in
-    let start : ℕ = end_of name (parts_front last.sum.front) in
-    let sum : List Shape = parts_front last.sum.front ++ spelled_part last.sum.last in
-    let in_field : Stands text field (spelled_name last.name ++ sum) = stands_right text from (fields_front front) (spelled_field last) h in
-    let in_sum : Stands text name sum = stands_right text field (spelled_name last.name) sum in_field in
-    let one : from ≤ field = end_le text from (fields_front front) (stands_left text from (fields_front front) (spelled_field last) h) in
-    let two : field ≤ name = end_le text field (spelled_name last.name) (stands_left text field (spelled_name last.name) sum in_field) in
-    let three : name ≤ start = end_le text name (parts_front last.sum.front) (stands_left text name (parts_front last.sum.front) (spelled_part last.sum.last) in_sum) in
-    let low : from ≤ start = omega arith in
-    let to : ℕ = end_of start (spelled_part last.sum.last) in (
-      to,
-      placed_within text start from to to (part_span last.sum.last)
-          (part_placed text start last.sum.last (stands_right text name (parts_front last.sum.front) (spelled_part last.sum.last) in_sum)) low (omega arith),
-    )
-
-command_fits : (text : List ℕ) (from node : ℕ) (command : WrittenCommand) → Stands text from (spelled_command command) → CommandStands text node command
-command_fits text from node command h =
-    let last = last_placed text command.word.span.to command.fields.front command.fields.last h.1 in
-    record {
-      span = (join_placed text from command.word.span.to last.0 command.word.span (part_span command.fields.last.sum.last) h.0 last.1).fits;
-      fields = fields_fit text command.word.span.to (node + 1) command.fields.front command.fields.last h.1;
-    }
-
-abbrev CommandFits : List ℕ → Command → Type 0
-CommandFits text command = KindFits text command.kind
-
--- later commands, their fields and their nodes are parts of the text
-record CommandsStand (text : List ℕ) (commands : List Command) : Type 0 where
-  nodes : All (NodeFits text) (flat_map nodes_of_command commands)
-  each : All (CommandFits text) commands
-
-commands_fit : (text : List ℕ) (from node : ℕ) (commands : List WrittenCommand) → Stands text from (later_commands commands) → CommandsStand text (command_trees node commands)
-commands_fit text from node [] h = record { nodes = All-nil (NodeFits text); each = All-nil (CommandFits text) }
-commands_fit text from node (command ∷ commands) h =
-    let first : List Shape = Bar ∷ spelled_command command in
-    let fits = command_fits text from node command (stands_left text from first (later_commands commands) h).1 in
-    let next : ℕ = node + command_size command in
-    let more = commands_fit text (end_of from first) next commands (stands_right text from first (later_commands commands) h) in
-    record {
-      nodes = All-append (NodeFits text) (nodes_of_command (command_tree node command)) (flat_map nodes_of_command (command_trees next commands))
-          (All-cons (NodeFits text) (node_at node (command_span command)) (flat_map nodes_of_field (command_fields node command)) fits.span fits.fields.nodes) more.nodes;
-      each = All-cons (CommandFits text) (command_tree node command) (command_trees next commands) fits.fields.each more.each;
-    }
-
-tree_fits : (text : List ℕ) (written : Written) → Stands text 0 (spelled written) → QueryFits text (tree_of written)
-tree_fits text written h =
-    let first : List Shape = spelled_command written.source in
-    let all : Stands text 0 (first ++ later_commands written.commands) = stands_left text 0 (spelled_commands written) (End ∷ []) h in
-    let fits = command_fits text 0 0 written.source (stands_left text 0 first (later_commands written.commands) all) in
-    let next : ℕ = command_size written.source in
-    let more = commands_fit text (end_of 0 first) next written.commands (stands_right text 0 first (later_commands written.commands) all) in
-    record {
-      nodes = All-append (NodeFits text) (nodes_of_source (source_tree 0 written.source)) (flat_map nodes_of_command (command_trees next written.commands))
-          (All-cons (NodeFits text) (node_at 0 (command_span written.source)) (flat_map nodes_of_field (command_fields 0 written.source)) fits.span fits.fields.nodes) more.nodes;
-      source = fits.fields.each;
-      commands = more.each;
-    }
-
--- a query that tokens spell has spans that are parts of their text
-pub query_fits : (text : List ℕ) (tokens : List Token) (query : Query) → length text ≤ 65536 → FitsText text tokens → Spells text tokens query → QueryFits text query
-query_fits text tokens query short fits (written, by, is) =
-    subst (λ query. QueryFits text query) (sym is)
-    (tree_fits text written (subst (λ shapes. Stands text 0 shapes) by.spells (stands_shapes text tokens short fits)))
+-- the spans of the query that the tokens of a text spell are parts of the text
+pub spelled_fits : (text : List ℕ) (tokens : List Token) (written : Written) (depth : ℕ) → length text ≤ 65536 → FitsText text tokens → SpellsQuery (lexemes_of text tokens) written depth
+    → QueryFits text (numbered_query written.source written.commands)
+spelled_fits text tokens written depth small fits spells =
+    numbering.query_fits text written.source written.commands (query_fits spells (lexemes_stand text tokens small fits))

@@ -1,111 +1,168 @@
--- The grammar of a query, over the shapes of its tokens.
-use Rattle.std.specs.Prelude.{◌≡◌, ℕ, ◌+◌, ◌==◌, ◌&&◌, nat_le, ℤ, pos, negsuc, Bool, IsTrue, if◌then◌else◌, List, [], ◌∷◌, ◌++◌, map, length, Option, Some, None, codes}
-use Rattle.std.specs.List.{flat_map, list_any, list_all}
-use Rattle.std.specs.Str.{str_eq_ignore_ascii_case}
+-- The grammar of queries: which lexemes spell which commands.
+use Rattle.std.specs.Prelude.{◌≡◌, ℕ, max, pos, Bool, true, false, List, [], ◌∷◌, ◌++◌, Option, Some, None}
+use Rattle.esql_types.specs.declared.names.NodeId.{NodeId}
 use Rattle.esql_types.specs.declared.places.Span.{Span}
-use Rattle.esql_lex.specs.declared.token.Sign.{Sign}
+use Rattle.esql_lex.specs.declared.token.Reserved.TheVariants as word
 use Rattle.esql_lex.specs.declared.token.Sign.TheVariants as sign
-use Rattle.esql_lex.specs.declared.token.Token.{Token}
-use Rattle.esql_lex.specs.declared.token.TokenKind.{TokenKind}
-use Rattle.esql_lex.specs.declared.token.TokenKind.TheVariants as kind
-use Rattle.esql_lex.specs.Tokens.{slice_of}
 use Rattle.esql_ast.specs.declared.query.NameAt.{NameAt}
-use Rattle.esql_parse.specs.declared.shape.Shape.{Shape}
-use Rattle.esql_parse.specs.declared.shape.Shape.TheVariants.{Name, Number, Opening, Closing, Bar, Comma, Plus, Assign, End, Other}
-use Rattle.esql_parse.specs.declared.written.Chain.{Chain}
-use Rattle.esql_parse.specs.declared.written.NumberAt.{NumberAt}
-use Rattle.esql_parse.specs.declared.written.Part.{Part}
-use Rattle.esql_parse.specs.declared.written.Part.TheVariants as part
-use Rattle.esql_parse.specs.declared.written.WrittenField.{WrittenField}
-use Rattle.esql_parse.specs.declared.written.WrittenCommand.{WrittenCommand}
-use Rattle.esql_parse.specs.declared.written.Written.{Written}
+use Rattle.esql_ast.specs.declared.query.TextAt.{TextAt}
+use Rattle.esql_ast.specs.declared.query.Field.{Field}
+use Rattle.esql_ast.specs.declared.query.StatsField.{StatsField}
+use Rattle.esql_ast.specs.declared.query.NamePattern.{NamePattern}
+use Rattle.esql_ast.specs.declared.query.RenamePair.{RenamePair}
+use Rattle.esql_ast.specs.declared.query.SortKey.{SortKey}
+use Rattle.esql_ast.specs.declared.query.EnrichItem.{EnrichItem}
+use Rattle.esql_ast.specs.declared.query.CommandKind.TheVariants as command
+use Rattle.esql_ast.specs.declared.query.SourceCommand.TheVariants as source
+use Rattle.esql_expr.specs.declared.lexeme.Lexeme.{Lexeme}
+use Rattle.esql_expr.specs.declared.lexeme.Lexeme.TheVariants.{Plain, Quoted, Pattern, Source, Text, Number, Word, Sign as Mark, End}
+use Rattle.esql_expr.specs.declared.machine.Part.{Part}
+use Rattle.esql_expr.specs.Ends.{span_at}
+use Rattle.esql_expr.specs.Parts.{join, span_of}
+use Rattle.esql_expr.specs.Phrases.{IsName, Phrase}
+use Rattle.esql_parse.specs.declared.state.Body.{Body}
+use Rattle.esql_parse.specs.declared.state.Body.TheVariants as body
+use Rattle.esql_parse.specs.declared.state.CommandWord.{CommandWord}
+use Rattle.esql_parse.specs.declared.state.CommandWord.TheVariants as begins
+use Rattle.esql_parse.specs.declared.state.Written.{Written}
+use Rattle.esql_parse.specs.Words.{command_word, is_join, is_append_separator}
 
--- a name has no dot
-abbrev pub name_shape : List ℕ → Span → Shape
-name_shape slice span = if list_any (λ c. c == 46) slice then Other else Name (record { name = slice; span = span })
+-- one item or more with a comma between each two, and the greatest depth of their expressions
+pub data Listed {A : Type 0} (One : List Lexeme → A → ℕ → Type 0) : List Lexeme → List A → ℕ → Type 0 where
+  first_item : {w : List Lexeme} {a : A} {d : ℕ} → One w a d → Listed One w (a ∷ []) d
+  next_item : (comma : Span) {u w : List Lexeme} {items : List A} {a : A} {d e : ℕ} → Listed One u items d → One w a e
+      → Listed One (u ++ Mark sign.Comma comma ∷ w) (items ++ a ∷ []) (max d e)
 
--- a number is at most 2147483647
-abbrev pub number_shape : ℤ → Span → Shape
-number_shape (pos value) span = if nat_le value 2147483647 then Number (record { value = pos value; span = span }) else Other
-number_shape (negsuc value) span = Other
-
--- the signs of the grammar
-abbrev pub sign_shape : Sign → Span → Shape
-sign_shape sign.Bar span = Bar
-sign_shape sign.Comma span = Comma
-sign_shape sign.Plus span = Plus
-sign_shape sign.Assign span = Assign
-sign_shape sign.OpenBracket span = Opening span
-sign_shape sign.CloseBracket span = Closing span
-sign_shape _ span = Other
-
-abbrev pub kind_shape : TokenKind → List ℕ → Span → Shape
-kind_shape kind.Name slice span = name_shape slice span
-kind_shape (kind.Number value) slice span = number_shape value span
-kind_shape (kind.Sign sign) slice span = sign_shape sign span
-kind_shape kind.End slice span = End
-kind_shape _ slice span = Other
-
--- what the grammar sees in a token of a text
-abbrev pub shape_of : List ℕ → Token → Shape
-shape_of text token = kind_shape token.kind (slice_of text token) token.span
-
--- all items of a chain
-abbrev pub items_of : {A : Type 0} → Chain A → List A
-items_of chain = chain.front ++ chain.last ∷ []
-
--- the items with a sign between each two
-abbrev pub spelled_chain : {A : Type 0} → Shape → (A → List Shape) → Chain A → List Shape
-spelled_chain sign spelled chain = flat_map (λ item. spelled item ++ sign ∷ []) chain.front ++ spelled chain.last
-
-abbrev pub spelled_number : NumberAt → List Shape
-spelled_number number = Number number ∷ []
-
--- part = Number | name | "[" Number { "," Number } "]"
-abbrev pub spelled_part : Part → List Shape
-spelled_part (part.Number number) = Number number ∷ []
-spelled_part (part.Column name) = Name name ∷ []
-spelled_part (part.List opening values closing) = Opening opening ∷ (spelled_chain Comma spelled_number values ++ Closing closing ∷ [])
+-- the span of a field is its expression's
+abbrev pub field_of : Option NameAt → Part → Field
+field_of name part = record { name = name; expr = part.expr; span = span_of part }
 
 -- [ name "=" ]
-abbrev pub spelled_name : Option NameAt → List Shape
-spelled_name None = []
-spelled_name (Some name) = Name name ∷ Assign ∷ []
+pub data FieldName : List Lexeme → Option NameAt → Type 0 where
+  no_name : FieldName [] None
+  named : (assign : Span) {x : Lexeme} {name : NameAt} → IsName x name → FieldName (x ∷ Mark sign.Assign assign ∷ []) (Some name)
 
--- field = [ name "=" ] part { "+" part }
-abbrev pub spelled_field : WrittenField → List Shape
-spelled_field field = spelled_name field.name ++ spelled_chain Plus spelled_part field.sum
+-- field = [ name "=" ] expr
+pub data FieldLine : List Lexeme → Field → ℕ → Type 0 where
+  field_line : {m w : List Lexeme} {name : Option NameAt} {p : Part} → FieldName m name → Phrase 0 w p → FieldLine (m ++ w) (field_of name p) p.depth
 
--- a word, then field { "," field }
-abbrev pub spelled_command : WrittenCommand → List Shape
-spelled_command command = Name command.word ∷ spelled_chain Comma spelled_field command.fields
+-- statfield = field [ WHERE expr ]
+pub data StatsLine : List Lexeme → StatsField → ℕ → Type 0 where
+  open_line : {w : List Lexeme} {f : Field} {d : ℕ} → FieldLine w f d → StatsLine w (record { field = f; condition = None }) d
+  where_line : (where_ : NameAt) {u w : List Lexeme} {f : Field} {d : ℕ} {p : Part} → FieldLine u f d → command_word where_.name ≡ Some begins.Where → Phrase 0 w p
+      → StatsLine (u ++ Plain where_ ∷ w) (record { field = f; condition = Some (record { node = record { 0 = 0 }; expr = p.expr }) }) (max d p.depth)
 
--- a command, then { "|" command }
-abbrev pub spelled_commands : Written → List Shape
-spelled_commands written = spelled_command written.source ++ flat_map (λ command. Bar ∷ spelled_command command) written.commands
+-- [ ASC | DESC ]
+pub data Direction : List Lexeme → Bool → Type 0 where
+  no_direction : Direction [] false
+  ascending : (at : Span) → Direction (Word word.Asc at ∷ []) false
+  descending : (at : Span) → Direction (Word word.Desc at ∷ []) true
 
--- and the end
-abbrev pub spelled : Written → List Shape
-spelled written = spelled_commands written ++ End ∷ []
+-- [ NULLS ( FIRST | LAST ) ]: nulls stand first where the direction descends, unless it is written
+pub data NullOrder : List Lexeme → Bool → Bool → Type 0 where
+  no_order : {descending : Bool} → NullOrder [] descending descending
+  nulls_first : (nulls first : Span) {descending : Bool} → NullOrder (Word word.Nulls nulls ∷ Word word.First first ∷ []) descending true
+  nulls_last : (nulls last : Span) {descending : Bool} → NullOrder (Word word.Nulls nulls ∷ Word word.Last last ∷ []) descending false
 
--- a part has the depth 1, and a sum of n parts n
-abbrev pub depth_of : WrittenField → ℕ
-depth_of field = length field.sum.front + 1
+-- key = expr [ ASC | DESC ] [ NULLS ( FIRST | LAST ) ]
+pub data KeyLine : List Lexeme → SortKey → ℕ → Type 0 where
+  key_line : {w m k : List Lexeme} {p : Part} {descending first : Bool} → Phrase 0 w p → Direction m descending → NullOrder k descending first
+      → KeyLine (w ++ (m ++ k)) (record { expr = p.expr; descending = descending; nulls_first = first }) p.depth
 
-abbrev pub is_shallow : WrittenField → Bool
-is_shallow field = nat_le (depth_of field) 100
+pub data TableLine : List Lexeme → NameAt → ℕ → Type 0 where
+  table_line : (name : NameAt) → TableLine (Source name ∷ []) name 0
 
--- the word without regard to ASCII case, and no field deeper than 100
-abbrev pub is_command : List ℕ → WrittenCommand → Bool
-is_command word command =
-    str_eq_ignore_ascii_case command.word.name word && (list_all is_shallow command.fields.front && is_shallow command.fields.last)
+-- pattern = Pattern | QuotedName
+pub data PatternLine : List Lexeme → NamePattern → ℕ → Type 0 where
+  pattern_line : (pattern : NamePattern) → PatternLine (Pattern pattern ∷ []) pattern 0
+  full_name_line : (name : NameAt) → PatternLine (Quoted name ∷ []) (record { text = name.name; wild = false; span = name.span }) 0
 
--- ROW, then at most 200 EVAL
-abbrev pub is_built : Written → Bool
-is_built written =
-    is_command (codes "ROW") written.source && (list_all (is_command (codes "EVAL")) written.commands && nat_le (length written.commands) 200)
+-- name AS name
+pub data PairLine : List Lexeme → RenamePair → ℕ → Type 0 where
+  pair_line : (as_ : Span) {x y : Lexeme} {before after : NameAt} → IsName x before → IsName y after → PairLine (x ∷ Word word.As as_ ∷ y ∷ []) (record { before = before; after = after }) 0
 
--- the tokens spell what is written, and it is built
-pub record SpelledBy (text : List ℕ) (tokens : List Token) (written : Written) : Type 0 where
-  pub spells : map (shape_of text) tokens ≡ spelled written
-  pub built : IsTrue (is_built written)
+-- item = [ name "=" ] name
+pub data ItemLine : List Lexeme → EnrichItem → ℕ → Type 0 where
+  item_line : {m : List Lexeme} {x : Lexeme} {name : Option NameAt} {field : NameAt} → FieldName m name → IsName x field → ItemLine (m ++ x ∷ []) (record { name = name; field = field }) 0
+
+-- [ ON name ]
+pub data OnName : List Lexeme → Option NameAt → Type 0 where
+  no_on : OnName [] None
+  on_name : (on : Span) {x : Lexeme} {name : NameAt} → IsName x name → OnName (Word word.On on ∷ x ∷ []) (Some name)
+
+-- [ WITH item { "," item } ]
+pub data WithItems : List Lexeme → Option (List EnrichItem) → Type 0 where
+  no_items : WithItems [] None
+  with_items : (with_ : Span) {w : List Lexeme} {items : List EnrichItem} {d : ℕ} → Listed ItemLine w items d → WithItems (Word word.With with_ ∷ w) (Some items)
+
+-- [ BY fields ]
+pub data ByFields : List Lexeme → List Field → ℕ → Type 0 where
+  no_groups : ByFields [] [] 0
+  by_fields : (by_ : Span) {w : List Lexeme} {fields : List Field} {d : ℕ} → Listed FieldLine w fields d → ByFields (Word word.By by_ ∷ w) fields d
+
+-- [ APPEND_SEPARATOR "=" Text ]: the separator is empty unless it is written
+pub data Separator : List Lexeme → List ℕ → Type 0 where
+  no_separator : Separator [] []
+  separator : (name : NameAt) (assign : Span) (text : TextAt) → is_append_separator name.name ≡ true → Separator (Plain name ∷ Mark sign.Assign assign ∷ Text text ∷ []) text.text
+
+-- source = FROM Source { "," Source } | ROW fields
+-- command = WHERE expr | EVAL fields | KEEP pattern { "," pattern } | DROP pattern { "," pattern }
+--   | RENAME name AS name { "," name AS name } | SORT key { "," key } | LIMIT Number | MV_EXPAND name
+--   | STATS statfields [ BY fields ] | STATS BY fields | DISSECT primary Text [ APPEND_SEPARATOR "=" Text ] | GROK primary Text
+--   | ENRICH Source [ ON name ] [ WITH item { "," item } ] | LOOKUP JOIN Source ON name
+-- what follows the word of a command
+pub data Says : CommandWord → List Lexeme → Body → ℕ → Type 0 where
+  from_says : {w : List Lexeme} {tables : List NameAt} {d : ℕ} → Listed TableLine w tables d → Says begins.From w (body.From tables) d
+  row_says : {w : List Lexeme} {fields : List Field} {d : ℕ} → Listed FieldLine w fields d → Says begins.Row w (body.Row fields) d
+  where_says : {w : List Lexeme} {p : Part} → Phrase 0 w p → Says begins.Where w (body.Command (command.Filter p.expr)) p.depth
+  eval_says : {w : List Lexeme} {fields : List Field} {d : ℕ} → Listed FieldLine w fields d → Says begins.Eval w (body.Command (command.Eval fields)) d
+  keep_says : {w : List Lexeme} {patterns : List NamePattern} {d : ℕ} → Listed PatternLine w patterns d → Says begins.Keep w (body.Command (command.Keep patterns)) d
+  drop_says : {w : List Lexeme} {patterns : List NamePattern} {d : ℕ} → Listed PatternLine w patterns d → Says begins.Drop w (body.Command (command.Drop patterns)) d
+  rename_says : {w : List Lexeme} {pairs : List RenamePair} {d : ℕ} → Listed PairLine w pairs d → Says begins.Rename w (body.Command (command.Rename pairs)) d
+  sort_says : {w : List Lexeme} {keys : List SortKey} {d : ℕ} → Listed KeyLine w keys d → Says begins.Sort w (body.Command (command.Sort keys)) d
+  limit_says : (count : ℕ) (at : Span) → Says begins.Limit (Number (pos count) at ∷ []) (body.Command (command.Limit count)) 0
+  expand_says : {x : Lexeme} {column : NameAt} → IsName x column → Says begins.MvExpand (x ∷ []) (body.Command (command.Expand column)) 0
+  stats_says : {w v : List Lexeme} {fields : List StatsField} {groups : List Field} {d e : ℕ} → Listed StatsLine w fields d → ByFields v groups e → Says begins.Stats (w ++ v) (body.Command (command.Stats fields groups)) (max d e)
+  stats_by_says : (by_ : Span) {w : List Lexeme} {groups : List Field} {d : ℕ} → Listed FieldLine w groups d → Says begins.Stats (Word word.By by_ ∷ w) (body.Command (command.Stats [] groups)) d
+  dissect_says : {w v : List Lexeme} {p : Part} {separator : List ℕ} (pattern : TextAt) → Phrase 8 w p → Separator v separator → Says begins.Dissect (w ++ Text pattern ∷ v) (body.Command (command.Dissect p.expr pattern separator)) p.depth
+  grok_says : {w : List Lexeme} {p : Part} (pattern : TextAt) → Phrase 8 w p → Says begins.Grok (w ++ Text pattern ∷ []) (body.Command (command.Grok p.expr pattern)) p.depth
+  enrich_says : (policy : NameAt) {u w : List Lexeme} {on : Option NameAt} {items : Option (List EnrichItem)} → OnName u on → WithItems w items → Says begins.Enrich (Source policy ∷ (u ++ w)) (body.Command (command.Enrich policy on items)) 0
+  join_says : (join_ table : NameAt) (on : Span) {x : Lexeme} {name : NameAt} → is_join join_.name ≡ true → IsName x name → Says begins.Lookup (Plain join_ ∷ Source table ∷ Word word.On on ∷ x ∷ []) (body.Command (command.Join table name)) 0
+
+-- the span of the last lexeme
+abbrev pub last_span : Span → List Lexeme → Span
+last_span last [] = last
+last_span last (x ∷ w) = last_span (span_at x) w
+
+-- a command's span is from its word to its last lexeme
+pub data CommandLine : List Lexeme → Body → Span → ℕ → Type 0 where
+  command_line : (name : NameAt) {begin : CommandWord} {w : List Lexeme} {b : Body} {d : ℕ} → command_word name.name ≡ Some begin → Says begin w b d
+      → CommandLine (Plain name ∷ w) b (join name.span (last_span name.span w)) d
+
+abbrev pub node_zero : NodeId
+node_zero = record { 0 = 0 }
+
+-- a query begins with a source command
+abbrev pub begin_with : Body → Span → Option Written
+begin_with (body.From tables) span = Some (record { source = source.Tables node_zero span tables; commands = [] })
+begin_with (body.Row fields) span = Some (record { source = source.OneRow node_zero span fields; commands = [] })
+begin_with (body.Command kind) span = None
+
+-- no source command stands later
+abbrev pub go_on_with : Written → Body → Span → Option Written
+go_on_with written (body.Command kind) span = Some (record { source = written.source; commands = written.commands ++ record { node = node_zero; span = span; kind = kind } ∷ [] })
+go_on_with written _ span = None
+
+abbrev pub with_body : Option Written → Body → Span → Option Written
+with_body None b span = begin_with b span
+with_body (Some written) b span = go_on_with written b span
+
+-- source { "|" command }
+pub data Piped : List Lexeme → Written → ℕ → Type 0 where
+  source_line : {w : List Lexeme} {b : Body} {span : Span} {d : ℕ} {written : Written} → CommandLine w b span d → begin_with b span ≡ Some written → Piped w written d
+  pipe_line : (bar : Span) {u w : List Lexeme} {b : Body} {span : Span} {d e : ℕ} {before written : Written} → Piped u before d → CommandLine w b span e → go_on_with before b span ≡ Some written
+      → Piped (u ++ Mark sign.Bar bar ∷ w) written (max d e)
+
+-- query = source { "|" command } End; the greatest depth of an expression in it
+pub data SpellsQuery : List Lexeme → Written → ℕ → Type 0 where
+  query_line : (end : Span) {w : List Lexeme} {written : Written} {d : ℕ} → Piped w written d → SpellsQuery (w ++ End end ∷ []) written d

@@ -1,4 +1,6 @@
 pub mod Grammar
+pub mod Limits
 pub mod Machine
+pub mod Refusals
 pub mod Spells
-pub mod Trees
+pub mod Words

@@ -3,12 +3,19 @@ ghost use Rattle.std.specs.Prelude.{◌≡◌};
 use std::alloc::AllocError;
 use thiserror::Error;
 
-/// Why tokens have no tree.
+/// Where tokens leave the queries, with the number of the first token with which they do.
 #[derive(Clone, Copy, Debug, Drop, Error)]
 pub enum ParseError {
-    /// The tokens spell no query that is built.
-    #[error("this is no query that is built")]
-    NotBuilt,
+    /// No query begins so.
+    #[error("no query goes on with this token")]
+    Unexpected { token: u32 },
+    /// Each query that begins so has an expression deeper than 100.
+    #[error("an expression is nested deeper than 100")]
+    TooDeep { token: u32 },
+    /// The token is the `|` that begins the 201st command after the source.
+    #[error("there are more than 200 commands")]
+    TooMany { token: u32 },
+    /// Memory was refused.
     #[error(transparent)]
     Memory(AllocError),
 }

@@ -1,16 +1,20 @@
-//! Laws of the grammar.
-
-ghost use Rattle.std.specs.Prelude.{◌≡◌, List, ℕ};
-ghost use Rattle.esql_lex.specs.declared.token.Token.{Token};
+ghost use Rattle.std.specs.Prelude.{◌≡◌, ℕ, List};
 ghost use Rattle.esql_ast.specs.declared.query.Query.{Query};
-ghost use Rattle.esql_parse.specs.Spells.{Spells, IsNumbered};
+ghost use Rattle.esql_lex.specs.declared.token.Token.{Token};
+ghost use Rattle.esql_parse.specs.declared.error.ParseError.{ParseError};
+ghost use Rattle.esql_parse.specs.Spells.{Refuses, Spells};
 
-/// One list of tokens spells at most one query.
+/// A law: tokens of a text spell one query at most.
 pub fn one_query()
     ensures { (text : List ℕ) (tokens : List Token) (query other : Query) → Spells text tokens query → Spells text tokens other → query ≡ other }
 {}
 
-/// The nodes of a query that is spelled are numbered from 0 in written order, and the query has as many.
-pub fn written_order()
-    ensures { (text : List ℕ) (tokens : List Token) (query : Query) → Spells text tokens query → IsNumbered query }
+/// A law: tokens of a text are refused in one way at most.
+pub fn one_refusal()
+    ensures { (text : List ℕ) (tokens : List Token) (error other : ParseError) → Refuses text tokens error → Refuses text tokens other → error ≡ other }
+{}
+
+/// A law: tokens that spell a query are not refused.
+pub fn no_refusal()
+    ensures { (text : List ℕ) (tokens : List Token) (query : Query) (error : ParseError) → Spells text tokens query → Refuses text tokens error → ⊥ }
 {}

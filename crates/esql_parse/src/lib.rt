@@ -1,17 +1,24 @@
-//! The tree of a query, from its tokens.
+//! Queries as they are written: the grammar of commands, and a parser that refuses at exactly the first wrong token.
 #![tactic(auto)]
 
-mod build;
+mod after;
+mod begins;
 mod error;
+mod field;
+mod keys;
 mod laws;
-mod limits;
-mod machine;
+mod named;
+mod parts;
+mod plain;
 mod reading;
-mod shape;
+mod state;
+mod step;
 #[cfg(test)]
 mod tests;
-mod written;
+mod whole;
+mod words;
 
 pub use error::ParseError;
-pub use laws::{one_query, written_order};
+pub use laws::{no_refusal, one_query, one_refusal};
 pub use reading::parse;
+pub use state::{Body, Clause, CommandWord, Inside, Point, Slot, State, Written};

@@ -1,80 +1,93 @@
-ghost use Rattle.std.specs.Prelude.{◌≡◌, ◌≤◌, List, length, map, All, MatchResult, IfOk};
-ghost use Rattle.esql_lex.specs.Tokens.{FitsText, IsPartOf};
+//! The query that tokens spell.
+
+ghost use Rattle.std.specs.Prelude.{◌≡◌, ◌⊎◌, ℕ, ◌≤◌, ◌<◌, length, IfOk, IfErr, MatchResult};
 ghost use Rattle.esql_ast.specs.declared.query.Query.{Query};
 ghost use Rattle.esql_ast.specs.Fits.{QueryFits};
-ghost use Rattle.esql_parse.specs.Grammar.{shape_of};
-ghost use Rattle.esql_parse.specs.Machine.{whole_of, read, built_of};
-ghost use Rattle.esql_parse.specs.Spells.{Spells, IsRefusal, IsQueryOrMemory, IsNumbered};
+ghost use Rattle.esql_parse.specs.declared.error.ParseError.{ParseError};
+ghost use Rattle.esql_lex.specs.Tokens.{FitsText};
+ghost use Rattle.esql_parse.specs.Grammar.{SpellsQuery};
+ghost use Rattle.esql_parse.specs.Limits.{GoesOn, Leaves, written_of};
+ghost use Rattle.esql_parse.specs.Machine.{need};
+ghost use Rattle.esql_parse.specs.Spells.{Spells, lexemes_of, IsWantOfMemory, Refuses, IsQueryOrMemory, IsRefusalOrMemory, IsNumbered, NamesToken};
 
-use crate::ParseError;
-use crate::build::tree_of;
-use crate::limits::is_built;
-use crate::machine::{State, step};
-use crate::shape::shape_of;
-use crate::written::Written;
-use esql_ast::Query;
+use crate::{Inside, ParseError, State, Written};
+use esql_ast::{Query, numbered_query, numbers_in_order};
+use esql_expr::{Lexeme, lexeme_of};
 use esql_lex::Token;
 use esql_types::Seq;
-use std::alloc::{AllocError, Global};
+use std::alloc::Global;
 
-fn whole_of(state: State) -> Option<Written>
-    ensures { result ≡ whole_of state }
+// A step within the limits, or why there is none.
+fn advance(alloc: Global, state: State, next: Lexeme, token: u32) -> Result<State, ParseError>
+    requires { need state ≤ 100 }
+    ensures { MatchResult result (GoesOn state next) (λ error. IsWantOfMemory error ⊎ Leaves state next token error) }
 {
-    match state {
-        State::Done(written) => Some(written),
-        _ => None,
-    }
-}
-
-// What the tokens of a text spell, if anything.
-fn read(alloc: Global, text: &str, tokens: &[Token]) -> Result<Option<Written>, AllocError>
-    requires short { length text.now ≤ 65536 }
-    requires fit { All (IsPartOf text.now) tokens.now }
-    ensures { IfOk result (λ written. written ≡ read (map (shape_of text.now) tokens.now)) }
-{
-    let mut state = State::Word(None);
-    for token in tokens {
-        let shape = shape_of(alloc, text, *token)?;
-        match step(alloc, state, shape)? {
-            Some(next) => state = next,
-            None => return Ok(None),
+    match state.step(alloc, next)? {
+        None => Err(ParseError::Unexpected { token }),
+        Some(more) => {
+            if 200 < more.pipes() {
+                Err(ParseError::TooMany { token })
+            } else if !more.is_within(100) {
+                Err(ParseError::TooDeep { token })
+            } else {
+                Ok(more)
+            }
         }
     }
-    Ok(whole_of(state))
 }
 
-fn built_of(written: Option<Written>) -> Option<Written>
-    ensures { result ≡ built_of written }
+fn written_of(state: State) -> Option<Written>
+    ensures { result ≡ written_of state }
 {
-    match written {
-        Some(written) if is_built(&written) => Some(written),
+    match state.inside {
+        Inside::Done => state.before,
         _ => None,
     }
 }
 
-fn parsed(alloc: Global, text: &str, tokens: &[Token]) -> Result<Query, ParseError>
+// What the tokens of a text spell, without the numbers of the nodes.
+fn read(alloc: Global, text: &str, tokens: &[Token]) -> Result<Written, ParseError>
     requires short { length text.now ≤ 65536 }
     requires fit { FitsText text.now tokens.now }
-    ensures { MatchResult result (Spells text.now tokens.now) (IsRefusal text.now tokens.now) }
+    ensures { MatchResult result (λ written. (depth : ℕ) × SpellsQuery (lexemes_of text.now tokens.now) written depth × (depth ≤ 100) × (length written.commands ≤ 200)) (λ error. IsWantOfMemory error ⊎ Refuses text.now tokens.now error) }
 {
-    match built_of(read(alloc, text, tokens)?) {
-        Some(written) => Ok(tree_of(alloc, written)?),
-        None => Err(ParseError::NotBuilt),
+    let mut state = State::start();
+    for (place, token) in tokens.iter().enumerate() {
+        let lexeme = lexeme_of(alloc, text, *token)?;
+        state = advance(alloc, state, lexeme, place as u32)?;
+    }
+    match written_of(state) {
+        Some(written) => Ok(written),
+        None => unreachable!(),
     }
 }
 
-/// The query that the tokens of a text of at most 65,536 bytes spell.
+fn parsed(alloc: Global, text: &str, tokens: &Seq<Token>) -> Result<Query, ParseError>
+    requires short { length text.now ≤ 65536 }
+    requires fit { FitsText text.now tokens.now }
+    ensures { MatchResult result (Spells text.now tokens.now) (λ error. IsWantOfMemory error ⊎ Refuses text.now tokens.now error) }
+{
+    let Written { source, commands } = read(alloc, text, tokens.as_slice())?;
+    Ok(numbered_query(alloc, source, commands)?)
+}
+
+/// The query that the tokens of a text of at most 65,536 bytes spell, with its nodes numbered in written order.
 ///
 /// # Errors
 ///
-/// `NotBuilt` where they spell none.
+/// The first token such that the tokens before it begin some query with no expression deeper than 100 and at most 200
+/// commands after the source, and with it none: `Unexpected` where the tokens with it begin no query at all, `TooMany`
+/// where it is the `|` that begins the 201st command, else `TooDeep`.
 pub fn parse(alloc: Global, text: &str, tokens: &Seq<Token>) -> Result<Query, ParseError>
     requires short { length text.now ≤ 65536 }
     requires fit { FitsText text.now tokens.now }
-    ensures exact { MatchResult result (Spells text.now tokens.now) (IsRefusal text.now tokens.now) }
+    ensures exact { MatchResult result (Spells text.now tokens.now) (λ error. IsWantOfMemory error ⊎ Refuses text.now tokens.now error) }
     ensures only { (query : Query) → Spells text.now tokens.now query → IsQueryOrMemory result query }
+    ensures refusal { (error : ParseError) → Refuses text.now tokens.now error → IsRefusalOrMemory result error }
     ensures fit { IfOk result (QueryFits text.now) }
     ensures numbered { IfOk result IsNumbered }
+    ensures place { IfErr result (NamesToken tokens.now) }
 {
-    parsed(alloc, text, tokens.as_slice())
+    numbers_in_order();
+    parsed(alloc, text, tokens)
 }

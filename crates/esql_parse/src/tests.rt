@@ -1,171 +1,109 @@
 ghost use Rattle.std.specs.Prelude.{◌≤◌, length};
 
-use crate::{ParseError, one_query, parse, written_order};
-use esql_ast::{CommandKind, Form, NameAt, Query, SourceCommand, nodes_of};
+use crate::{ParseError, no_refusal, one_query, one_refusal, parse};
 use esql_lex::lex;
-use esql_types::Value;
-use std::alloc::Global;
+use std::alloc::{AllocError, Global};
 use std::test::Fail;
 
-fn query_of(alloc: Global, text: &str) -> Result<Option<Query>, Fail>
+fn answer_of(alloc: Global, text: &str) -> Result<String, Fail>
     requires { length text.now ≤ 65536 }
 {
     let tokens = lex(alloc, text)?;
-    match parse(alloc, text, &tokens) {
-        Ok(query) => Ok(Some(query)),
-        Err(ParseError::NotBuilt) => Ok(None),
-        Err(error) => Err(Fail::from(error)),
-    }
-}
-
-fn spells_nodes(alloc: Global, text: &str, expected: &[(u32, u32)]) -> Result<bool, Fail>
-    requires { length text.now ≤ 65536 }
-{
-    let Some(query) = query_of(alloc, text)? else {
-        return Ok(false);
+    let answer = match parse(alloc, text, &tokens) {
+        Ok(query) => format!(in alloc; "query {} {}", query.commands.len(), query.nodes)?,
+        Err(ParseError::Unexpected { token }) => format!(in alloc; "unexpected {}", token)?,
+        Err(ParseError::TooDeep { token }) => format!(in alloc; "deep {}", token)?,
+        Err(ParseError::TooMany { token }) => format!(in alloc; "many {}", token)?,
+        Err(error) => return Err(Fail::from(error)),
     };
-    let nodes = nodes_of(alloc, &query)?;
-    let mut same = query.nodes as usize == expected.len() && nodes.len() == expected.len();
-    for (index, (place, (from, to))) in nodes.as_slice().iter().zip(expected).enumerate() {
-        let numbered = place.node.0 as usize == index;
-        same = same && numbered && place.span.from == *from && place.span.to == *to;
-    }
-    Ok(same)
+    Ok(answer)
 }
 
-#[test]
-fn nodes_are_numbered_in_written_order(rt: HostRuntime) -> Result<(), Fail> {
-    let sum = [(0, 9), (8, 9), (12, 26), (21, 26), (21, 22), (25, 26)];
-    assert!(rt; spells_nodes(rt.alloc(), "ROW a = 1 | EVAL b = a + 2", &sum)?);
-    let nested = [
-        (0, 14),
-        (8, 14),
-        (17, 31),
-        (22, 31),
-        (22, 27),
-        (22, 23),
-        (26, 27),
-        (30, 31),
-    ];
-    assert!(rt; spells_nodes(rt.alloc(), "ROW a = [1, 2] | EVAL a + 1 + 1", &nested)?);
-    let words = [
-        (0, 7),
-        (4, 5),
-        (6, 7),
-        (10, 18),
-        (15, 18),
-        (15, 16),
-        (17, 18),
-    ];
-    assert!(rt; spells_nodes(rt.alloc(), "row x,9 | eVaL x+x", &words)?);
-    one_query();
-    written_order();
-    Ok(())
-}
-
-fn is_name(name: &Option<NameAt>, text: &str, from: u32, to: u32) -> bool {
-    match name {
-        Some(at) => at.name.as_str() == text && at.span.from == from && at.span.to == to,
-        None => false,
-    }
-}
-
-fn is_integer(value: &Value, number: i32) -> bool {
-    match value {
-        Value::Int(found) => *found == number,
-        _ => false,
-    }
-}
+// Texts, and the commands after the source and the nodes of the query, or the refusal and its token.
+const CASES: [(&str, &str); 18] = [
+    ("FROM t, u", "query 0 1"),
+    (
+        "from t | where a == 1 | EVAL b = a + 1, c | KEEP a*, `b` | DROP c | RENAME a AS d, b AS e | SORT d DESC NULLS LAST, e | LIMIT 5 | MV_EXPAND e",
+        "query 8 18",
+    ),
+    (
+        "FROM t | STATS n = COUNT(*) WHERE a > 1, m = MAX(b) BY g = c, d",
+        "query 1 11",
+    ),
+    (
+        "FROM t | DISSECT a \"%{x}\" append_separator=\",\" | GROK b \"%{WORD:w}\" | ENRICH p ON a WITH x = y, z | LOOKUP JOIN u ON a",
+        "query 4 7",
+    ),
+    ("ROW a = [1, \"a\"]", "query 0 2"),
+    ("ROW a = b NOT x", "unexpected 5"),
+    ("ROW a = b NOT IN", "unexpected 6"),
+    ("ROW a = CASE(", "unexpected 5"),
+    ("ROW a = b IN ()", "unexpected 6"),
+    ("ROW a = []", "unexpected 4"),
+    ("ROW a = [-]", "unexpected 5"),
+    ("ROW a = 1 == 2 == 3", "unexpected 6"),
+    ("ROW a = 1 | RENAME a b", "unexpected 7"),
+    ("ROW a = 1 | STATS BY", "unexpected 7"),
+    (
+        "ROW a = 1 | STATS n = COUNT(*) BY v WHERE true",
+        "unexpected 14",
+    ),
+    ("ROW a = 1 | ENRICH p WITH", "unexpected 8"),
+    ("ROW a = 1 | LOOKUP x", "unexpected 6"),
+    ("", "unexpected 0"),
+];
 
 #[test]
-fn forms_are_as_written(rt: HostRuntime) -> Result<(), Fail> {
-    let Some(query) = query_of(rt.alloc(), "ROW Aa = 2147483647, [3, 1, 2] | EVAL b")? else {
-        return Err(Fail::new("no query"));
-    };
-    let SourceCommand::OneRow { fields, .. } = &query.source;
-    let [number, list] = fields.as_slice() else {
-        return Err(Fail::new("other fields"));
-    };
-    assert!(rt; is_name(&number.name, "Aa", 4, 6) && list.name.is_none());
-    assert!(rt; number.span.from == 9 && number.span.to == 19);
-    assert!(rt; list.span.from == 21 && list.span.to == 30);
-    let Form::Constant { cell, .. } = &number.expr.form else {
-        return Err(Fail::new("no constant"));
-    };
-    assert!(rt; cell.len() == 1 && is_integer(&cell.as_slice()[0], 2147483647));
-    let Form::List { values } = &list.expr.form else {
-        return Err(Fail::new("no list"));
-    };
-    let [first, second, third] = values.as_slice() else {
-        return Err(Fail::new("other values"));
-    };
-    assert!(rt; is_integer(first, 3) && is_integer(second, 1) && is_integer(third, 2));
-    let [command] = query.commands.as_slice() else {
-        return Err(Fail::new("other commands"));
-    };
-    let CommandKind::Eval { fields } = &command.kind;
-    let [column] = fields.as_slice() else {
-        return Err(Fail::new("other fields"));
-    };
-    assert!(rt; matches!(&column.expr.form, Form::Column { name } if name.as_str() == "b"));
-    Ok(())
-}
-
-#[test]
-fn other_tokens_are_refused(rt: HostRuntime) -> Result<(), Fail> {
-    let texts = [
-        "",
-        "FROM t",
-        "ROW",
-        "ROW a = ",
-        "ROW a = 1 |",
-        "ROW a = (1)",
-        "ROW a = 2147483648",
-        "EVAL a = 1",
-        "ROW a = 1 | ROW b = 1",
-        "ROW = 1",
-        "ROW a = []",
-        "ROW a = [1,]",
-        "ROW a = [b]",
-        "ROW a = b = 1",
-        "ROW 1 = 1",
-        "ROW a, | EVAL b",
-        "ROW a = 1 2",
-    ];
-    for text in texts {
+fn texts_are_queries_or_refused_at_a_token(rt: HostRuntime) -> Result<(), Fail> {
+    for (text, expected) in CASES {
         if text.len() <= 65536 {
-            assert!(rt; query_of(rt.alloc(), text)?.is_none(), "{text}");
+            let found = answer_of(rt.alloc(), text)?;
+            assert_eq!(rt; found.as_str(), expected, "{text}");
         }
     }
+    one_query();
+    one_refusal();
+    no_refusal();
     Ok(())
 }
 
-fn repeated(alloc: Global, first: &str, more: &str, count: u32) -> Result<String, Fail> {
-    let mut text = String::from_str(alloc, first)?;
-    for _ in 0..count {
-        text.push_str(more)?;
+fn push_repeated(out: &mut String, piece: &str, times: u32) -> Result<(), AllocError> {
+    for _ in 0..times {
+        out.push_str(piece)?;
     }
-    Ok(text)
+    Ok(())
 }
 
+// ROW a = , a piece so many times, a text, another piece as many times, a text, and the answer.
+const REPEATED: [(&str, u32, &str, &str, &str, &str); 15] = [
+    ("(", 99, "1", ")", "", "query 0 101"),
+    ("(", 100, "1", ")", "", "deep 102"),
+    ("1 + ", 99, "1", "", "", "query 0 200"),
+    ("1 + ", 100, "1", "", "", "deep 202"),
+    ("NOT ", 99, "true", "", "", "query 0 101"),
+    ("NOT ", 100, "true", "", "", "deep 102"),
+    ("- ", 99, "1", "", "", "query 0 101"),
+    ("- ", 100, "1", "", "", "deep 102"),
+    ("f(", 99, "1", ")", "", "query 0 101"),
+    ("f(", 100, "1", ")", "", "deep 203"),
+    ("(", 99, "1", ")", " IN (1)", "deep 202"),
+    ("(", 99, "1", ")", "::long", "deep 202"),
+    ("(", 99, "1", ")", " IS NULL", "deep 202"),
+    ("", 200, "1", " | LIMIT 1", "", "query 200 202"),
+    ("", 201, "1", " | LIMIT 1", "", "many 604"),
+];
+
 #[test]
-fn limits_are_exact(rt: HostRuntime) -> Result<(), Fail> {
-    let cases = [
-        ("ROW 1", " + 1", 99, true),
-        ("ROW 1", " + 1", 100, false),
-        ("ROW 1", ", 1", 200, true),
-        ("ROW 1", " | EVAL 1", 200, true),
-        ("ROW 1", " | EVAL 1", 201, false),
-    ];
-    for (first, more, count, is_built) in cases {
-        let text = repeated(rt.alloc(), first, more, count)?;
-        let text = text.as_str();
+fn limits_of_depth_and_of_commands(rt: HostRuntime) -> Result<(), Fail> {
+    for (opening, times, middle, closing, back, expected) in REPEATED {
+        let mut text = String::from_str(rt.alloc(), "ROW a = ")?;
+        push_repeated(&mut text, opening, times)?;
+        text.push_str(middle)?;
+        push_repeated(&mut text, closing, times)?;
+        text.push_str(back)?;
         if text.len() <= 65536 {
-            assert_eq!(rt;
-                query_of(rt.alloc(), text)?.is_some(),
-                is_built,
-                "{more} {count}"
-            );
+            let found = answer_of(rt.alloc(), text.as_str())?;
+            assert_eq!(rt; found.as_str(), expected, "{text}");
         }
     }
     Ok(())

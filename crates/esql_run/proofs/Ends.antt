@@ -1,10 +1,10 @@
 -- What was written where memory was refused and a write failed.
 use Rattle.std.proofs.Common.{◌≡◌, ℕ, List, [], ◌∷◌, Option, Some, None, refl, sym, ◌∙◌, ap, subst, inr, ⊎_elim, append-nil}
+use Rattle.esql_io.specs.Files.{Held}
 use Rattle.esql_io.specs.Sinks.{with_more, TookFront}
-use Rattle.answer_text.specs.Messages.{out_of_memory}
 use Rattle.esql_run.specs.declared.status.Status.{Status}
-use Rattle.esql_run.specs.declared.status.Status.TheVariants.{WriteFault, NoMemory}
-use Rattle.esql_run.specs.Answers.{TookFronts}
+use Rattle.esql_run.specs.declared.status.Status.TheVariants.{WriteFault}
+use Rattle.esql_run.specs.Answers.{TookFronts, TookLine, IsOtherLine}
 use Rattle.esql_run.specs.Writing.{WroteBoth, FailedWrite, Writes}
 
 with_more-nil : (taken : Option (List ℕ)) → with_more taken [] ≡ taken
@@ -16,17 +16,32 @@ took_nothing : (old new : Option (List ℕ)) → TookFront old new [] → new �
 took_nothing old new ([], rest, whole, took) = took
 took_nothing old new (byte ∷ front, rest, whole, took) = absurd cc
 
--- the output took nothing, and the error stream a front of the line
-pub no_memory_fronts : (words : List (List ℕ)) (result : Status) (texts : List ℕ × List ℕ) (out out_after err err_after : Option (List ℕ)) (rose : Type 0)
-    → texts ≡ ([], out_of_memory) → Writes NoMemory result texts out out_after err err_after rose → result ≡ WriteFault → TookFronts words out out_after err err_after
-no_memory_fronts words result texts out out_after err err_after rose are writes fault =
+-- the output took nothing, and the error stream a front of another line
+pub line_fronts : (status : Status) (line : List ℕ) (words : List (List ℕ)) (held : Held) (read : Type 0) (failed : List ℕ) (result : Status) (texts : List ℕ × List ℕ) (out out_after err err_after : Option (List ℕ)) (rose : Type 0)
+    → (status ≡ WriteFault → ⊥) → IsOtherLine read failed line → texts ≡ ([], line) → Writes status result texts out out_after err err_after rose → result ≡ WriteFault
+    → TookFronts words held read failed out out_after err err_after
+line_fronts status line words held read failed result texts out out_after err err_after rose other is are writes fault =
     ⊎_elim
-    (λ (both : WroteBoth NoMemory result texts out out_after err err_after). let clash : NoMemory ≡ WriteFault = sym both.same ∙ fault in absurd cc)
-    (λ (failed : FailedWrite result texts out out_after err err_after rose). inr (inr (⊎_elim
+    (λ (both : WroteBoth status result texts out out_after err err_after). absurd (other (sym both.same ∙ fault)))
+    (λ (stopped : FailedWrite result texts out out_after err err_after rose). inr (inr (⊎_elim
     (λ front. (
+      line,
+      is,
       took_nothing out out_after (subst (λ (t : List ℕ × List ℕ). TookFront out out_after t.0) are front.0),
-      ([], out_of_memory, refl, front.1 ∙ sym (with_more-nil err)),
+      ([], line, refl, front.1 ∙ sym (with_more-nil err)),
     ))
-    (λ front. (front.0 ∙ ap (λ (t : List ℕ × List ℕ). with_more out t.0) are, subst (λ (t : List ℕ × List ℕ). TookFront err err_after t.1) are front.1))
-    failed.fronts)))
+    (λ front. (line, is, front.0 ∙ ap (λ (t : List ℕ × List ℕ). with_more out t.0) are, subst (λ (t : List ℕ × List ℕ). TookFront err err_after t.1) are front.1))
+    stopped.fronts)))
+    writes
+
+-- what was written where no write failed
+pub line_taken : (status : Status) (line named : List ℕ) (result : Status) (texts : List ℕ × List ℕ) (out out_after err err_after : Option (List ℕ)) (rose : Type 0)
+    → (status ≡ WriteFault → ⊥) → texts ≡ ([], line) → line ≡ named → Writes status result texts out out_after err err_after rose → result ≡ status → TookLine named out out_after err err_after
+line_taken status line named result texts out out_after err err_after rose other are is writes same =
+    ⊎_elim
+    (λ (both : WroteBoth status result texts out out_after err err_after). (
+      both.wrote ∙ ap (λ (t : List ℕ × List ℕ). with_more out t.0) are,
+      both.warned ∙ ap (λ (t : List ℕ × List ℕ). with_more err t.1) are ∙ ap (with_more err) is,
+    ))
+    (λ (stopped : FailedWrite result texts out out_after err err_after rose). absurd (other (sym same ∙ stopped.fault)))
     writes

@@ -1,26 +1,35 @@
--- A text has no query where it has no tokens, or where its tokens spell none.
-use Rattle.std.proofs.Common.{◌≡◌, ℕ, List, refl, sym, subst}
-use Rattle.std.specs.declared.alloc.AllocError.{AllocError}
-use Rattle.esql_lex.specs.declared.token.Token.{Token}
+-- A text that is refused is no query, at a place of it.
+use Rattle.std.proofs.Common.{◌⊎◌, ℕ, ◌≤◌, ◌<◌, List, length, get_or, sym, subst, ⊎_elim, arith}
+use Rattle.std.specs.Str.{IsCharBoundary}
+use Rattle.std.proofs.lemmas.Option.{slice_get-get_or}
 use Rattle.esql_lex.specs.declared.error.LexError.{LexError}
-use Rattle.esql_lex.specs.declared.error.LexError.TheVariants.{BadCharacter, OpenString, BadEscape, OpenComment, WideNumber, Memory}
-use Rattle.esql_lex.specs.Tokens.{Tokens, IsWantOfMemory}
-use Rattle.esql_ast.specs.declared.query.Query.{Query}
-use Rattle.esql_parse.specs.Spells.{Spells}
-use Rattle.esql_run.specs.Outcome.{IsQuery}
+use Rattle.esql_lex.specs.declared.token.Token.{Token}
+use Rattle.esql_lex.specs.Tokens.{Tokens, LexFault, FitsText, IsWantOfMemory}
+use Rattle.esql_parse.specs.declared.error.ParseError.{ParseError}
+use Rattle.esql_parse.specs.Spells.{Refuses}
+use Rattle.esql_run.specs.declared.query.Unread.{Unread}
+use Rattle.esql_run.specs.declared.query.Unread.TheVariants.{Refused, Memory}
+use Rattle.esql_run.specs.Unread.{IsNoQuery, IsPlace, IsUnread, IsRefusedWith, HasFault, HasRefusal}
 
-pub no_tokens : (text : List ℕ) (error : LexError) → ((tokens : List Token) → Tokens text tokens → IsWantOfMemory error) → (IsWantOfMemory error → ⊥) → (query : Query) → IsQuery text query → ⊥
-no_tokens text error only other query is = other (only is.tokens is.lexed)
+-- a place of a short text can be counted
+pub counted : (text : List ℕ) (at : ℕ) → length text ≤ 65536 → IsCharBoundary text at → IsPlace text at
+counted text at short boundary = let within = boundary.0 in record { boundary = boundary; short = omega arith }
 
-pub not_spelled : (text : List ℕ) (tokens : List Token) → ((others : List Token) → Tokens text others → tokens ≡ others) → ((query : Query) → Spells text tokens query → ⊥)
-    → (query : Query) → IsQuery text query → ⊥
-not_spelled text tokens only none query is = none query (subst (λ (ts : List Token). Spells text ts query) (sym (only is.tokens is.lexed)) is.spelled)
+pub unread_by : (text : List ℕ) (unread : Unread) (at : ℕ) (message : List ℕ) → IsRefusedWith unread at message → IsNoQuery text at message → IsPlace text at → IsUnread text unread
+unread_by text (Refused place words) at message (same, said) none is =
+    (subst (λ (m : List ℕ). IsNoQuery text place m) (sym said) (subst (λ (p : ℕ). IsNoQuery text p message) (sym same) none), subst (λ (p : ℕ). IsPlace text p) (sym same) is)
+unread_by text (Memory error) at message refused none is = tt
 
--- a fault of the text is no want of memory
-pub is_fault : (error : LexError) → ((refusal : AllocError) → error ≡ Memory refusal → ⊥) → IsWantOfMemory error → ⊥
-is_fault (Memory refusal) other want = other refusal refl
-is_fault (BadCharacter at) other want = want
-is_fault (OpenString at) other want = want
-is_fault (BadEscape at) other want = want
-is_fault (OpenComment at) other want = want
-is_fault (WideNumber at) other want = want
+-- a fault that is no want of memory
+pub fault_of : (text : List ℕ) (error : LexError) → length text ≤ 65536 → (IsWantOfMemory error → ⊥) → IsWantOfMemory error ⊎ LexFault text error → HasFault text error
+fault_of text error short other found = record { short = short; fault = ⊎_elim (λ want. absurd (other want)) (λ fault. fault) found }
+
+-- a token of a text stands at a place of it
+pub token_place : (text : List ℕ) (tokens : List Token) (number : ℕ) (d : Token) → length text ≤ 65536 → FitsText text tokens → number < length tokens → IsPlace text (get_or tokens number d).span.from
+token_place text tokens number d short fit within = let part = fit.parts number d within in counted text (get_or tokens number d).span.from short part.starts
+
+-- the tokens are refused at one of them
+pub refusal_of : (text : List ℕ) (tokens : List Token) (error : ParseError) (number : ℕ) (d : Token) → length text ≤ 65536 → Tokens text tokens → Refuses text tokens error → number < length tokens
+    → HasRefusal text error number (get_or tokens number d)
+refusal_of text tokens error number d short lexed refuses within =
+    record { short = short; tokens = tokens; lexed = lexed; refuses = refuses; stands = slice_get-get_or tokens number d within }

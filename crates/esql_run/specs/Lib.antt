@@ -1,5 +1,9 @@
 pub mod Answers
+pub mod Bytes
 pub mod Codes
+pub mod From
 pub mod Made
 pub mod Outcome
+pub mod Stopped
+pub mod Unread
 pub mod Writing

@@ -1,5 +1,6 @@
 -- What the program answers to its words: a status, and the bytes of its output and of its error stream.
-use Rattle.std.specs.Prelude.{◌≡◌, ◌⊎◌, ℕ, ◌≤◌, List, [], ◌∷◌, length, map, Result, Ok, Err}
+use Rattle.std.specs.Prelude.{◌≡◌, Bool, true, false, ◌⊎◌, ℕ, ◌≤◌, List, [], ◌∷◌, length, map, Result, Ok, Err}
+use Rattle.esql_io.specs.Files.{Held}
 use Rattle.esql_types.specs.declared.places.Span.{Span}
 use Rattle.esql_types.specs.declared.names.Column.{Column}
 use Rattle.esql_types.specs.Spans.{text_at}
@@ -8,31 +9,27 @@ use Rattle.esql_lex.specs.Tokens.{Tokens}
 use Rattle.esql_ast.specs.declared.query.Query.{Query}
 use Rattle.esql_ast.specs.Nodes.{nodes_of}
 use Rattle.esql_parse.specs.Spells.{Spells}
+use Rattle.table_files.specs.Stops.{IsFileOf}
 use Rattle.query_semantics.specs.declared.table.Ran.{Ran}
 use Rattle.query_semantics.specs.Tables.{cells_of}
 use Rattle.query_semantics.specs.Commands.{meaning_of}
 use Rattle.query_semantics.specs.Shapes.{shape_of}
+use Rattle.query_semantics.specs.Unbuilt.{unbuilt_of}
 use Rattle.answer_text.specs.Txt.{shown_txt}
 use Rattle.answer_text.specs.Warnings.{warned}
-use Rattle.answer_text.specs.Messages.{refused_line, unknown_column, not_built, usage}
-use Rattle.esql_run.specs.declared.status.Status.{Status}
-use Rattle.esql_run.specs.declared.status.Status.TheVariants.{Done, Refused, Usage}
+use Rattle.answer_text.specs.Messages.{unknown_column, not_built, usage}
+use Rattle.esql_run.specs.Bytes.{Outcome, refused}
+use Rattle.esql_run.specs.From.{is_one_table, names_of, span_of, AnswersFrom}
+use Rattle.esql_run.specs.Unread.{IsNoQuery}
+use Rattle.esql_run.specs.declared.status.Status.TheVariants.{Done, Usage}
 
-pub record Outcome : Type 0 where
-  pub status : Status
-  pub out : List ℕ
-  pub err : List ℕ
-
--- The text is that of a query: it is at most 65,536 bytes long, and its tokens spell the query.
+-- The text is that of a query: it is at most 65,536 bytes long, and its tokens spell the query, in which no expression is
+-- deeper than 100 and at most 200 commands stand after the source.
 pub record IsQuery (text : List ℕ) (query : Query) : Type 0 where
   pub short : length text ≤ 65536
   pub tokens : List Token
   pub lexed : Tokens text tokens
   pub spelled : Spells text tokens query
-
--- a refusal at an offset of the text
-abbrev pub refused : List ℕ → ℕ → List ℕ → Outcome
-refused text at message = record { status = Refused; out = []; err = refused_line text at message }
 
 -- the table that the query means, and its warnings
 abbrev pub done : List ℕ → Query → Ran → Outcome
@@ -43,21 +40,51 @@ done text query ran = record {
 }
 
 -- the first broken rule of a query is refused where it stands; a query without one is answered with what it means
-abbrev pub outcome_of : List ℕ → Query → Result (List Column) Span → Outcome
-outcome_of text query (Ok columns) = done text query (meaning_of text query)
-outcome_of text query (Err span) = refused text span.from (unknown_column (text_at text span))
+abbrev pub outcome_built : List ℕ → Query → Result (List Column) Span → Outcome
+outcome_built text query (Ok columns) = done text query (meaning_of text query)
+outcome_built text query (Err span) = refused text span.from (unknown_column (text_at text span))
 
--- The outcome of a text: that of its query, or that it is not built where it is the text of no query.
-abbrev pub IsAnswer : List ℕ → Outcome → Type 0
-IsAnswer text outcome =
-    ((query : Query) × IsQuery text query × (outcome ≡ outcome_of text query (shape_of text query)))
-    ⊎ (((query : Query) → IsQuery text query → ⊥) × (outcome ≡ refused text 0 not_built))
+-- the first form that is not built is refused where it stands
+abbrev pub outcome_by : List ℕ → Query → List Span → Outcome
+outcome_by text query [] = outcome_built text query (shape_of text query)
+outcome_by text query (span ∷ spans) = refused text span.from not_built
+
+abbrev pub outcome_of : List ℕ → Query → Outcome
+outcome_of text query = outcome_by text query (unbuilt_of query)
+
+-- FROM with one table is answered over the files that are held, any other query by its forms
+abbrev pub AnswersBy : Bool → List ℕ → Held → Query → Outcome → Type 0
+AnswersBy true text held query outcome = AnswersFrom text held (span_of query.source) (names_of query.source) outcome
+AnswersBy false text held query outcome = outcome ≡ outcome_of text query
+
+abbrev pub AnswersQuery : List ℕ → Held → Query → Outcome → Type 0
+AnswersQuery text held query outcome = AnswersBy (is_one_table query) text held query outcome
+
+-- the outcome of a text: that of its query, or the refusal of what is no query
+abbrev pub IsAnswer : List ℕ → Held → Outcome → Type 0
+IsAnswer text held outcome =
+    ((query : Query) × IsQuery text query × AnswersQuery text held query outcome)
+    ⊎ ((at : ℕ) × (message : List ℕ) × IsNoQuery text at message × (outcome ≡ refused text at message))
 
 abbrev pub wrong_words : Outcome
 wrong_words = record { status = Usage; out = []; err = usage }
 
--- the outcome of the words: they are one word, the query, or else the usage is shown
-abbrev pub IsOutcome : List (List ℕ) → Outcome → Type 0
-IsOutcome [] outcome = outcome ≡ wrong_words
-IsOutcome (text ∷ []) outcome = IsAnswer text outcome
-IsOutcome (first ∷ second ∷ words) outcome = outcome ≡ wrong_words
+-- the outcome of the words, over files that may tell what they hold: they are one word, the query, or else the usage is shown
+abbrev pub IsOutcome : List (List ℕ) → Held → Outcome → Type 0
+IsOutcome [] held outcome = outcome ≡ wrong_words
+IsOutcome (text ∷ []) held outcome = IsAnswer text held outcome
+IsOutcome (first ∷ second ∷ words) held outcome = outcome ≡ wrong_words
+
+-- no file is read for the query of the text, if it has one
+abbrev pub ReadsNoFile : List ℕ → Type 0
+ReadsNoFile text = (query : Query) → IsQuery text query → is_one_table query ≡ false
+
+-- the file is the mapping or the rows of a table that the query of the text names
+abbrev pub IsFileFor : List ℕ → List ℕ → Type 0
+IsFileFor text file = (query : Query) × IsQuery text query × IsFileOf (names_of query.source) file
+
+-- the words are a query that reads the file
+abbrev pub AsksFile : List (List ℕ) → List ℕ → Type 0
+AsksFile [] file = ⊥
+AsksFile (text ∷ []) file = IsFileFor text file
+AsksFile (first ∷ second ∷ words) file = ⊥

@@ -1,16 +1,8 @@
 -- What is to be written, and what was.
-use Rattle.std.specs.Prelude.{◌≡◌, ◌⊎◌, ℕ, List, [], Option}
+use Rattle.std.specs.Prelude.{◌≡◌, ◌⊎◌, ℕ, List, Option}
 use Rattle.esql_io.specs.Sinks.{with_more, TookFront}
-use Rattle.answer_text.specs.Messages.{out_of_memory}
 use Rattle.esql_run.specs.declared.status.Status.{Status}
-use Rattle.esql_run.specs.declared.status.Status.TheVariants.{WriteFault, NoMemory}
-use Rattle.esql_run.specs.Outcome.{IsOutcome}
-
--- the status and the texts are those of an outcome of the words, or of want of memory
-abbrev pub IsWanted : List (List ℕ) → Status → List ℕ → List ℕ → Type 0
-IsWanted words status out err =
-    IsOutcome words (record { status = status; out = out; err = err })
-    ⊎ ((status ≡ NoMemory) × (out ≡ []) × (err ≡ out_of_memory))
+use Rattle.esql_run.specs.declared.status.Status.TheVariants.{WriteFault}
 
 -- both texts were written, and the status is the wanted one
 pub record WroteBoth (status result : Status) (texts : List ℕ × List ℕ) (out out_after err err_after : Option (List ℕ)) : Type 0 where

@@ -1,38 +1,45 @@
-ghost use Rattle.std.specs.Prelude.{◌≡◌, ◌<◌, ℕ, List, map, IfOk};
+ghost use Rattle.std.specs.Prelude.{◌≡◌, [], map, IfOk};
 ghost use Rattle.std.specs.String.{string_bytes};
-ghost use Rattle.std.specs.Str.{IsCharBoundary};
+ghost use Rattle.esql_types.specs.Counts.{Rose};
 ghost use Rattle.esql_ast.specs.Fits.{QueryFits};
+ghost use Rattle.table_files.specs.Stops.{IsFileOf};
 ghost use Rattle.query_semantics.specs.Tables.{IsShaped};
 ghost use Rattle.query_semantics.specs.Shapes.{shape_of};
-ghost use Rattle.esql_run.specs.Outcome.{IsOutcome, IsAnswer, outcome_of, refused, done, wrong_words};
+ghost use Rattle.query_semantics.specs.Unbuilt.{unbuilt_of};
+ghost use Rattle.esql_run.specs.Answers.{IsTold};
+ghost use Rattle.esql_run.specs.Outcome.{IsOutcome, IsAnswer, AnswersQuery, IsFileFor, AsksFile, outcome_of, outcome_built, done, wrong_words};
+ghost use Rattle.esql_run.specs.From.{names_of};
 ghost use Rattle.esql_run.specs.Made.{outcome_made};
+ghost use Rattle.esql_run.specs.Stopped.{IfFault};
 
 use crate::Status;
-use crate::query::read_query;
+use crate::from::answer_from;
+use crate::query::{Unread, read_query};
+use crate::rendered::{Rendered, Unanswered, refuse};
 use crate::rows::cells_of_rows;
-use answer_text::{not_built, refusal, unknown_column, usage, warnings};
-use esql_ast::{Query, nodes_of};
+use answer_text::{not_built, unknown_column, usage, warnings};
+use esql_ast::{Query, SourceCommand, nodes_of};
+use esql_io::Files;
 use esql_types::{Text, text_at};
-use query_semantics::{AnswerError, Ran, Table, meaning_of};
+use query_semantics::{AnswerError, Ran, Table, first_unbuilt, meaning_of};
 use std::alloc::{AllocError, Global};
 use table_out::txt;
 
-/// All that will be written, rendered.
-#[derive(Drop)]
-pub(crate) struct Rendered {
-    pub(crate) status: Status,
-    pub(crate) out: Text,
-    pub(crate) err: Text,
-}
-
 /// The answer to the words of the command line.
-pub(crate) fn answer(alloc: Global, words: &[String]) -> Result<Rendered, AllocError>
-    ensures { IfOk result (λ answer. IsOutcome (map string_bytes words.now) (outcome_made answer)) }
+pub(crate) fn answer<F: Files>(
+    alloc: Global,
+    words: &[String],
+    files: &mut F,
+) -> Result<Rendered, Unanswered>
+    ensures told { IfOk result (λ answer. IsOutcome (map string_bytes words.now) (F.holds files.old) (outcome_made answer)) }
+    ensures status { IfOk result (λ answer. IsTold answer.status) }
+    ensures named { IfFault result (AsksFile (map string_bytes words.now)) }
+    ensures rose { IfFault result (λ file. Rose (F.faults files.old) (F.faults files.new) × (F.failed files.new ≡ file)) }
 {
     if words.len() != 1 {
-        return wrong_words(alloc);
+        return Ok(wrong_words(alloc)?);
     }
-    answer_text(alloc, words[0].as_str())
+    answer_text(alloc, words[0].as_str(), files)
 }
 
 fn wrong_words(alloc: Global) -> Result<Rendered, AllocError>
@@ -45,18 +52,56 @@ fn wrong_words(alloc: Global) -> Result<Rendered, AllocError>
     })
 }
 
-fn answer_text(alloc: Global, text: &str) -> Result<Rendered, AllocError>
-    ensures { IfOk result (λ answer. IsAnswer text.now (outcome_made answer)) }
+fn answer_text<F: Files>(alloc: Global, text: &str, files: &mut F) -> Result<Rendered, Unanswered>
+    ensures told { IfOk result (λ answer. IsAnswer text.now (F.holds files.old) (outcome_made answer)) }
+    ensures status { IfOk result (λ answer. IsTold answer.status) }
+    ensures named { IfFault result (IsFileFor text.now) }
+    ensures rose { IfFault result (λ file. Rose (F.faults files.old) (F.faults files.new) × (F.failed files.new ≡ file)) }
 {
-    match read_query(alloc, text)? {
-        Some(query) => answer_query(alloc, text, &query),
-        None => refuse(alloc, text, 0, not_built()),
+    match read_query(alloc, text) {
+        Ok(query) => answer_query(alloc, text, &query, files),
+        Err(Unread::Refused { at, message }) => Ok(refuse(alloc, text, at, message.as_str())?),
+        Err(Unread::Memory(error)) => Err(Unanswered::Memory(error)),
     }
 }
 
-fn answer_query(alloc: Global, text: &str, query: &Query) -> Result<Rendered, AllocError>
+fn answer_query<F: Files>(
+    alloc: Global,
+    text: &str,
+    query: &Query,
+    files: &mut F,
+) -> Result<Rendered, Unanswered>
     requires { QueryFits text.now query.now }
-    ensures { IfOk result (λ answer. outcome_made answer ≡ outcome_of text.now query.now (shape_of text.now query.now)) }
+    ensures told { IfOk result (λ answer. AnswersQuery text.now (F.holds files.old) query.now (outcome_made answer)) }
+    ensures status { IfOk result (λ answer. IsTold answer.status) }
+    ensures named { IfFault result (IsFileOf (names_of query.now.source)) }
+    ensures rose { IfFault result (λ file. Rose (F.faults files.old) (F.faults files.new) × (F.failed files.new ≡ file)) }
+{
+    match &query.source {
+        SourceCommand::Tables { span, tables, .. }
+            if tables.len() == 1 && query.commands.len() == 0 => {
+            answer_from(alloc, text, *span, tables.as_slice(), files)
+        }
+        _ => Ok(answer_forms(alloc, text, query)?),
+    }
+}
+
+fn answer_forms(alloc: Global, text: &str, query: &Query) -> Result<Rendered, AllocError>
+    requires { QueryFits text.now query.now }
+    ensures told { IfOk result (λ answer. outcome_made answer ≡ outcome_of text.now query.now) }
+    ensures status { IfOk result (λ answer. IsTold answer.status) }
+{
+    match first_unbuilt(query) {
+        Some(span) => refuse(alloc, text, span.from, not_built()),
+        None => answer_built(alloc, text, query),
+    }
+}
+
+fn answer_built(alloc: Global, text: &str, query: &Query) -> Result<Rendered, AllocError>
+    requires fits { QueryFits text.now query.now }
+    requires built { unbuilt_of query.now ≡ [] }
+    ensures told { IfOk result (λ answer. outcome_made answer ≡ outcome_built text.now query.now (shape_of text.now query.now)) }
+    ensures status { IfOk result (λ answer. IsTold answer.status) }
 {
     match meaning_of(alloc, text, query) {
         Ok(ran) => show(alloc, text, query, ran),
@@ -83,17 +128,5 @@ fn show(alloc: Global, text: &str, query: &Query, ran: Ran) -> Result<Rendered, 
         status: Status::Done,
         out: txt(alloc, &columns, &rows)?,
         err: warnings(alloc, text, &nodes, &failures)?,
-    })
-}
-
-fn refuse(alloc: Global, text: &str, at: u32, message: &str) -> Result<Rendered, AllocError>
-    requires short { at < 4294967295 }
-    requires boundary { IsCharBoundary text.now at }
-    ensures { IfOk result (λ answer. outcome_made answer ≡ refused text.now at message.now) }
-{
-    Ok(Rendered {
-        status: Status::Refused,
-        out: Text::from_str(alloc, "")?,
-        err: refusal(alloc, text, at, message)?,
     })
 }

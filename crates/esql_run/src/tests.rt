@@ -48,7 +48,7 @@ struct Row {
     err: &'static str,
 }
 
-const ROWS: [Row; 8] = [
+const ROWS: [Row; 20] = [
     Row {
         query: "ROW a = 1 | EVAL b = a + 2",
         status: Status::Done,
@@ -89,13 +89,85 @@ const ROWS: [Row; 8] = [
         query: "FROM t",
         status: Status::Refused,
         out: "",
-        err: "line 1:1: command not built\n",
+        err: "line 1:6: unknown table [t]\n",
     },
     Row {
         query: "ROW a = 1, b = 2 | EVAL a = b\n+ 1",
         status: Status::Done,
         out: "b | a\n--+--\n2 | 3\n",
         err: "",
+    },
+    Row {
+        query: "FROM t | EVAL x = ",
+        status: Status::Refused,
+        out: "",
+        err: "line 1:19: unexpected end of query\n",
+    },
+    Row {
+        query: "ROW a = \"x",
+        status: Status::Refused,
+        out: "",
+        err: "line 1:9: text or name is not closed\n",
+    },
+    Row {
+        query: "ROW a = \"\\q\"",
+        status: Status::Refused,
+        out: "",
+        err: "line 1:10: unknown escape\n",
+    },
+    Row {
+        query: "ROW a = 9223372036854775808",
+        status: Status::Refused,
+        out: "",
+        err: "line 1:9: number is too large\n",
+    },
+    Row {
+        query: "ROW a = 1 ! b",
+        status: Status::Refused,
+        out: "",
+        err: "line 1:11: unexpected character\n",
+    },
+    Row {
+        query: "ROW a = 1 /* x",
+        status: Status::Refused,
+        out: "",
+        err: "line 1:11: comment is not closed\n",
+    },
+    Row {
+        query: "ROW a = 1 == 2 == 3",
+        status: Status::Refused,
+        out: "",
+        err: "line 1:16: unexpected [==]\n",
+    },
+    Row {
+        query: "ROW a = 1 | LIMIT 1",
+        status: Status::Refused,
+        out: "",
+        err: "line 1:13: command not built\n",
+    },
+    Row {
+        query: "ROW a = (1 + zz)",
+        status: Status::Refused,
+        out: "",
+        err: "line 1:14: unknown column [zz]\n",
+    },
+    Row {
+        query: "ROW a = [1, 2147483648]",
+        status: Status::Refused,
+        out: "",
+        err: "line 1:9: command not built\n",
+    },
+    Row {
+        query: "ROW a = 1 // one\n/* two */\n| EVAL b = zz",
+        status: Status::Refused,
+        out: "",
+        err: "line 3:12: unknown column [zz]\n",
+    },
+    Row {
+        query: "ROW a = [1, -2] | EVAL b = (a + 1) + 2",
+        status: Status::Done,
+        out: "a       | b\n--------+-----\n[1, -2] | null\n",
+        err: "Line 1:29: evaluation of [a + 1] W\nLine 1:29: single-value function encountered multi-value\n",
     },
 ];
 

@@ -1,12 +1,15 @@
 ghost use Rattle.std.specs.Prelude.{◌≡◌, ◌⊎◌, map};
 ghost use Rattle.std.specs.String.{string_bytes};
 ghost use Rattle.esql_types.specs.Counts.{Rose};
-ghost use Rattle.esql_run.specs.Answers.{IsTold, Tells, IsComplete, TookFronts, TookNoMemory};
+ghost use Rattle.answer_text.specs.Messages.{out_of_memory, cannot_read};
+ghost use Rattle.esql_run.specs.Outcome.{AsksFile};
+ghost use Rattle.esql_run.specs.Answers.{IsTold, Tells, IsComplete, TookFronts, TookLine};
 
 use crate::Status;
 use crate::answer::answer;
+use crate::rendered::Unanswered;
 use crate::writing::write_both;
-use answer_text::out_of_memory;
+use answer_text::{cannot_read, out_of_memory};
 use esql_io::{Files, Sink};
 use esql_types::Maker;
 use std::alloc::Global;
@@ -14,25 +17,30 @@ use std::alloc::Global;
 /// Answers the words of the command line, without the program's name: what the query means goes to `out`, and warnings
 /// and refusals go to `err`. Everything is rendered before the first write; then `out` is written whole, then `err`.
 ///
-/// So far the words are one, a query of ROW and EVAL; no file is read and no pattern is built.
+/// So far the words are one, a query: of ROW and EVAL, or FROM with one table and no command, whose files are read. No
+/// pattern is built.
 pub fn run<F: Files, M: Maker, K: Sink, E: Sink>(
     alloc: Global,
     words: &[String],
-    _files: &mut F,
+    files: &mut F,
     _maker: &mut M,
     out: &mut K,
     err: &mut E,
 ) -> Status
-    ensures soundness { IsTold result → Tells (map string_bytes words.now) result
+    ensures soundness { IsTold result → Tells (map string_bytes words.now) (F.holds files.old) result
         (K.taken out.old) (K.taken out.new) (E.taken err.old) (E.taken err.new) }
-    ensures completeness { IsComplete result
+    ensures completeness { IsComplete result (Rose (F.faults files.old) (F.faults files.new))
         (Rose (K.faults out.old) (K.faults out.new) ⊎ Rose (E.faults err.old) (E.faults err.new)) }
-    ensures prefixes { result ≡ Status.WriteFault → TookFronts (map string_bytes words.now)
+    ensures faults { result ≡ Status.ReadFault → TookLine (cannot_read (F.failed files.new))
         (K.taken out.old) (K.taken out.new) (E.taken err.old) (E.taken err.new) }
-    ensures memory { result ≡ Status.NoMemory → TookNoMemory
+    ensures asked { result ≡ Status.ReadFault → AsksFile (map string_bytes words.now) (F.failed files.new) }
+    ensures prefixes { result ≡ Status.WriteFault → TookFronts (map string_bytes words.now) (F.holds files.old)
+        (Rose (F.faults files.old) (F.faults files.new)) (F.failed files.new)
+        (K.taken out.old) (K.taken out.new) (E.taken err.old) (E.taken err.new) }
+    ensures memory { result ≡ Status.NoMemory → TookLine out_of_memory
         (K.taken out.old) (K.taken out.new) (E.taken err.old) (E.taken err.new) }
 {
-    match answer(alloc, words) {
+    match answer(alloc, words, files) {
         Ok(answer) => write_both(
             answer.status,
             answer.out.as_str(),
@@ -40,6 +48,10 @@ pub fn run<F: Files, M: Maker, K: Sink, E: Sink>(
             out,
             err,
         ),
-        Err(_) => write_both(Status::NoMemory, "", out_of_memory(), out, err),
+        Err(Unanswered::ReadFault { file }) => match cannot_read(alloc, file.as_str()) {
+            Ok(line) => write_both(Status::ReadFault, "", line.as_str(), out, err),
+            Err(_) => write_both(Status::NoMemory, "", out_of_memory(), out, err),
+        },
+        Err(Unanswered::Memory(_)) => write_both(Status::NoMemory, "", out_of_memory(), out, err),
     }
 }

@@ -12,7 +12,7 @@ use Rattle.esql_ast.specs.declared.query.Command.{Command}
 use Rattle.esql_ast.specs.declared.query.CommandKind.{CommandKind}
 use Rattle.esql_ast.specs.declared.query.CommandKind.TheVariants.{Eval}
 use Rattle.esql_ast.specs.declared.query.SourceCommand.{SourceCommand}
-use Rattle.esql_ast.specs.declared.query.SourceCommand.TheVariants.{OneRow}
+use Rattle.esql_ast.specs.declared.query.SourceCommand.TheVariants.{Tables, OneRow}
 use Rattle.row_semantics.specs.Rows.{Row, put}
 use Rattle.row_semantics.specs.declared.row.NamedCell.{NamedCell}
 use Rattle.query_semantics.specs.declared.table.Table.{Table}
@@ -57,6 +57,7 @@ IsShaped-fields text (field ∷ fields) ran shaped = IsShaped-fields text fields
 
 IsShaped-kind : (text : List ℕ) (kind : CommandKind) (ran : Ran) → IsShaped ran.table → IsShaped (run_kind text kind ran).table
 IsShaped-kind text (Eval fields) ran shaped = IsShaped-fields text fields ran shaped
+IsShaped-kind text _ ran shaped = shaped
 
 IsShaped-commands : (text : List ℕ) (commands : List Command) (ran : Ran) → IsShaped ran.table → IsShaped (fold (run_command text) ran commands).table
 IsShaped-commands text [] ran shaped = shaped
@@ -64,6 +65,7 @@ IsShaped-commands text (command ∷ commands) ran shaped = IsShaped-commands tex
 
 IsShaped-source : (text : List ℕ) (source : SourceCommand) → IsShaped (run_source text source).table
 IsShaped-source text (OneRow node span fields) = IsShaped-fields text fields (record { table = record { columns = []; rows = [] ∷ [] }; failures = [] }) (All-cons (λ (row : Row). names_in row ≡ []) [] [] refl (All-nil (λ (row : Row). names_in row ≡ [])))
+IsShaped-source text (Tables node span tables) = All-nil (λ (row : Row). names_in row ≡ [])
 
 -- the table that a query means has rows in the shape of its columns
 pub IsShaped-meaning : (text : List ℕ) (query : Query) → IsShaped (meaning_of text query).table

@@ -4,7 +4,7 @@ use Rattle.std.specs.List.{flat_map}
 use Rattle.esql_types.specs.Spans.{text_at}
 use Rattle.esql_types.specs.declared.cause.Failure.{Failure}
 use Rattle.esql_ast.specs.declared.expr.Expr.{Expr}
-use Rattle.esql_ast.specs.declared.expr.Form.TheOpen.{Form-F, Constant, List as Listed, Column as Named, Binary}
+use Rattle.esql_ast.specs.declared.expr.Form.TheOpen.{Form-F, Column as Named}
 use Rattle.esql_ast.specs.declared.expr.Form.TheFolds.{fold-Expr}
 use Rattle.esql_ast.specs.declared.query.Field.{Field}
 use Rattle.esql_ast.specs.declared.query.NameAt.{NameAt}
@@ -13,7 +13,7 @@ use Rattle.esql_ast.specs.declared.query.Command.{Command}
 use Rattle.esql_ast.specs.declared.query.CommandKind.{CommandKind}
 use Rattle.esql_ast.specs.declared.query.CommandKind.TheVariants.{Eval}
 use Rattle.esql_ast.specs.declared.query.SourceCommand.{SourceCommand}
-use Rattle.esql_ast.specs.declared.query.SourceCommand.TheVariants.{OneRow}
+use Rattle.esql_ast.specs.declared.query.SourceCommand.TheVariants.{Tables, OneRow}
 use Rattle.row_semantics.specs.Rows.{Row, put}
 use Rattle.row_semantics.specs.Values.{value_of}
 use Rattle.query_semantics.specs.Kinds.{kind_of}
@@ -21,14 +21,12 @@ use Rattle.query_semantics.specs.declared.table.Table.{Table}
 use Rattle.query_semantics.specs.declared.table.Ran.{Ran}
 use Rattle.query_semantics.specs.Tables.{put_column}
 
--- the name of a form, where it is one column
+-- the name of a form, where it is one column without parentheses
 abbrev pub column_of_form : Form-F (Option (List ℕ)) (Option (List ℕ)) → Option (List ℕ)
-column_of_form (Constant cell kind) = None
-column_of_form (Listed values) = None
 column_of_form (Named name) = Some name
-column_of_form (Binary op left right) = None
+column_of_form form = None
 
--- the name of an expression, where it is one column
+-- the name of an expression, where it is one column without parentheses
 abbrev pub column_of : Expr → Option (List ℕ)
 column_of = fold-Expr (Option (List ℕ)) (Option (List ℕ)) column_of_form (λ e. e.form)
 
@@ -70,16 +68,19 @@ run_field text ran field = record {
 abbrev pub run_fields : List ℕ → List Field → Ran → Ran
 run_fields text fields ran = fold (run_field text) ran fields
 
+-- what a command does; no query with another command is answered
 abbrev pub run_kind : List ℕ → CommandKind → Ran → Ran
 run_kind text (Eval fields) ran = run_fields text fields ran
+run_kind text kind ran = ran
 
 abbrev pub run_command : List ℕ → Ran → Command → Ran
 run_command text ran command = run_kind text command.kind ran
 
--- ROW: one row without columns, on which its fields are evaluated as by EVAL
+-- ROW: one row without columns, on which its fields are evaluated as by EVAL; no query with FROM is answered
 abbrev pub run_source : List ℕ → SourceCommand → Ran
 run_source text (OneRow node span fields) =
     run_fields text fields (record { table = record { columns = []; rows = [] ∷ [] }; failures = [] })
+run_source text (Tables node span tables) = record { table = record { columns = []; rows = [] }; failures = [] }
 
 -- the last cut of a query without a LIMIT: the first 1,000 rows; it drops no failure
 abbrev pub last_cut : Ran → Ran

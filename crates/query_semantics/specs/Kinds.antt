@@ -9,7 +9,7 @@ use Rattle.esql_types.specs.declared.names.Column.{Column}
 use Rattle.esql_ast.specs.declared.expr.BinaryOp.{BinaryOp}
 use Rattle.esql_ast.specs.declared.expr.BinaryOp.TheVariants.{Add}
 use Rattle.esql_ast.specs.declared.expr.Expr.{Expr}
-use Rattle.esql_ast.specs.declared.expr.Form.TheOpen.{Form-F, Constant, List as Listed, Column as Named, Binary}
+use Rattle.esql_ast.specs.declared.expr.Form.TheOpen.{Form-F, Constant, List as Listed, Column as Named, Group, Binary}
 use Rattle.esql_ast.specs.declared.expr.Form.TheFolds.{fold-Expr}
 
 abbrev pub kind_of_value : Value → Kind
@@ -35,14 +35,19 @@ kind_of_sum Long right = Long
 kind_of_sum left Long = Long
 kind_of_sum left right = Integer
 
+-- no query with another operator is answered
 abbrev pub kind_of_binary : BinaryOp → Kind → Kind → Kind
 kind_of_binary Add left right = kind_of_sum left right
+kind_of_binary op left right = Null
 
+-- parentheses change no kind; no query with another form is answered
 abbrev pub kind_of_form : Form-F (List Column → Kind) (List Column → Kind) → List Column → Kind
 kind_of_form (Constant cell kind) columns = kind
 kind_of_form (Listed values) columns = kind_of_list values
 kind_of_form (Named name) columns = kind_at columns name
+kind_of_form (Group inner) columns = inner columns
 kind_of_form (Binary op left right) columns = kind_of_binary op (left columns) (right columns)
+kind_of_form form columns = Null
 
 -- the kind of an expression over columns
 abbrev pub kind_of : Expr → List Column → Kind

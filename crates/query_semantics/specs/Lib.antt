@@ -3,3 +3,4 @@ pub mod Kinds
 pub mod Refusals
 pub mod Shapes
 pub mod Tables
+pub mod Unbuilt

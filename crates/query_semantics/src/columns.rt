@@ -2,6 +2,7 @@ ghost use Rattle.std.specs.Prelude.{◌≡◌, ℕ, List, not, true, false, Some
 ghost use Rattle.std.specs.Str.{bytes_eq};
 ghost use Rattle.esql_types.specs.Spans.{SpanFits};
 ghost use Rattle.esql_ast.specs.Fits.{ExprFits};
+ghost use Rattle.row_semantics.specs.Built.{IsBuilt, is_built_operator};
 ghost use Rattle.query_semantics.specs.Tables.{put_column};
 ghost use Rattle.query_semantics.specs.Kinds.{kind_of, kind_of_value, kind_of_list, kind_at, kind_of_binary, kind_of_sum};
 ghost use Rattle.query_semantics.specs.Shapes.{has_column, unknown_in, first_of};
@@ -31,19 +32,22 @@ fn is_other(column: &Column, name: &Text) -> bool
     column.name.as_str() != name.as_str()
 }
 
-/// The kind of an expression over columns.
+/// The kind over columns of an expression that is built.
 pub(crate) fn kind_of(expr: &Expr, columns: &[Column]) -> Kind
+    requires { IsBuilt expr.now }
     ensures { result ≡ kind_of expr.now columns.now }
 {
     match &expr.form {
         Form::Constant { kind, .. } => *kind,
         Form::List { values } => kind_of_list(values.as_slice()),
         Form::Column { name } => kind_at(columns, name.as_str()),
-        Form::Binary { op, left, right } => kind_of_binary(
-            *op,
-            kind_of(left.get(), columns),
-            kind_of(right.get(), columns),
-        ),
+        Form::Group { inner } => kind_of(inner.get(), columns),
+        Form::Binary { op, left, right } => {
+            let left = kind_of(left.get(), columns);
+            let right = kind_of(right.get(), columns);
+            kind_of_binary(*op, left, right)
+        }
+        _ => unreachable!(),
     }
 }
 
@@ -79,10 +83,12 @@ fn kind_at(columns: &[Column], name: &str) -> Kind
 }
 
 fn kind_of_binary(op: BinaryOp, left: Kind, right: Kind) -> Kind
+    requires { is_built_operator op ≡ true }
     ensures { result ≡ kind_of_binary op left right }
 {
     match op {
         BinaryOp::Add => kind_of_sum(left, right),
+        _ => unreachable!(),
     }
 }
 
@@ -96,18 +102,22 @@ fn kind_of_sum(left: Kind, right: Kind) -> Kind
     }
 }
 
-/// The first column of an expression that is not there, in written order.
+/// The first column of an expression that is built that is not there, in written order.
 pub(crate) fn unknown_in(expr: &Expr, columns: &[Column]) -> Option<Span>
+    requires { IsBuilt expr.now }
     ensures unknown { result ≡ unknown_in expr.now columns.now }
     ensures place { (text : List ℕ) → ExprFits text expr.now → IfSome result (SpanFits text) }
 {
     match &expr.form {
         Form::Constant { .. } | Form::List { .. } => None,
         Form::Column { name } => unknown_name(name.as_str(), expr.span, columns),
-        Form::Binary { left, right, .. } => first_of(
-            unknown_in(left.get(), columns),
-            unknown_in(right.get(), columns),
-        ),
+        Form::Group { inner } => unknown_in(inner.get(), columns),
+        Form::Binary { left, right, .. } => {
+            let left = unknown_in(left.get(), columns);
+            let right = unknown_in(right.get(), columns);
+            first_of(left, right)
+        }
+        _ => unreachable!(),
     }
 }
 
@@ -133,7 +143,7 @@ fn has_column(columns: &[Column], name: &str) -> bool
     false
 }
 
-fn first_of(first: Option<Span>, next: Option<Span>) -> Option<Span>
+pub(crate) fn first_of(first: Option<Span>, next: Option<Span>) -> Option<Span>
     ensures { result ≡ first_of first next }
 {
     match first {

@@ -2,6 +2,7 @@ ghost use Rattle.std.specs.Prelude.{◌≡◌, None, IfOk, IfErr};
 ghost use Rattle.std.specs.Option.{option_copied};
 ghost use Rattle.esql_types.specs.Spans.{SpanFits};
 ghost use Rattle.esql_ast.specs.Fits.{FieldFits};
+ghost use Rattle.row_semantics.specs.Built.{IsBuilt};
 ghost use Rattle.query_semantics.specs.Commands.{column_of, name_of_field, run_field};
 ghost use Rattle.query_semantics.specs.Shapes.{unknown_in};
 ghost use Rattle.query_semantics.specs.Refusals.{NamesUnknown, ErrorFits};
@@ -20,7 +21,8 @@ pub(crate) fn run_field(
     ran: Ran,
     field: &Field,
 ) -> Result<Ran, AnswerError>
-    requires { FieldFits text.now field.now }
+    requires fits { FieldFits text.now field.now }
+    requires built { IsBuilt field.now.expr }
     ensures ran { IfOk result (λ new. new ≡ run_field text.now ran field.now) }
     ensures known { IfOk result (λ new. unknown_in field.now.expr ran.table.columns ≡ None) }
     ensures unknown { IfErr result (λ error. NamesUnknown error (unknown_in field.now.expr ran.table.columns)) }
@@ -38,7 +40,8 @@ pub(crate) fn run_field(
 }
 
 fn run_known_field(alloc: Global, text: &str, ran: Ran, field: &Field) -> Result<Ran, AllocError>
-    requires { SpanFits text.now field.now.span }
+    requires fits { SpanFits text.now field.now.span }
+    requires built { IsBuilt field.now.expr }
     ensures { IfOk result (λ new. new ≡ run_field text.now ran field.now) }
 {
     let Ran {
@@ -76,12 +79,12 @@ fn name_of_field(alloc: Global, text: &str, field: &Field) -> Result<Text, Alloc
     }
 }
 
-/// The name of an expression, where it is one column.
+/// The name of an expression, where it is one column without parentheses.
 fn column_of(expr: &Expr) -> Option<&Text>
     ensures { option_copied result ≡ column_of expr.now }
 {
     match &expr.form {
         Form::Column { name } => Some(name),
-        Form::Constant { .. } | Form::List { .. } | Form::Binary { .. } => None,
+        _ => None,
     }
 }

@@ -5,6 +5,8 @@ mod answer;
 mod columns;
 mod field;
 mod table;
+mod unbuilt;
 
 pub use answer::meaning_of;
 pub use table::{AnswerError, Ran, Table};
+pub use unbuilt::first_unbuilt;

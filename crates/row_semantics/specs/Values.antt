@@ -10,7 +10,7 @@ use Rattle.esql_types.specs.Numbers.{fits_integer, fits_long}
 use Rattle.esql_ast.specs.declared.expr.BinaryOp.{BinaryOp}
 use Rattle.esql_ast.specs.declared.expr.BinaryOp.TheVariants.{Add}
 use Rattle.esql_ast.specs.declared.expr.Expr.{Expr}
-use Rattle.esql_ast.specs.declared.expr.Form.TheOpen.{Form-F, Constant, List as Listed, Column, Binary}
+use Rattle.esql_ast.specs.declared.expr.Form.TheOpen.{Form-F, Constant, List as Listed, Column, Group, Binary}
 use Rattle.esql_ast.specs.declared.expr.Form.TheFolds.{fold-Expr}
 use Rattle.row_semantics.specs.declared.computed.Computed.{Computed}
 use Rattle.row_semantics.specs.declared.computed.Computed.TheVariants.{Gives, Fails, Nothing}
@@ -73,22 +73,26 @@ sum_of (Long left ∷ Int right ∷ []) = long_of (left +ℤ right)
 sum_of (Long left ∷ Long right ∷ []) = long_of (left +ℤ right)
 sum_of values = Nothing
 
--- the plain function of an operator
+-- the plain function of an operator; no query with another operator is answered
 abbrev pub function_of : BinaryOp → List Value → Computed
-function_of Add = sum_of
+function_of Add values = sum_of values
+function_of op values = Nothing
 
 -- the failures of the operands, then the node's own
 abbrev pub with_failures : List Failure → Valued → Valued
 with_failures failures valued = record { cell = valued.cell; failures = failures ++ valued.failures }
 
--- the value of a form at a node: of its parts first, from the left
+-- The value of a form at a node: of its parts first, from the left. Parentheses change nothing. No query with another
+-- form is answered.
 abbrev pub value_of_form : Form-F (NodeId → Row → Valued) (Row → Valued) → NodeId → Row → Valued
 value_of_form (Constant cell kind) node row = record { cell = cell; failures = [] }
 value_of_form (Listed values) node row = record { cell = values; failures = [] }
 value_of_form (Column name) node row = record { cell = cell_at row name; failures = [] }
+value_of_form (Group inner) node row = inner row
 value_of_form (Binary op left right) node row =
     let a = left row in let b = right row in
     with_failures (a.failures ++ b.failures) (single_at node (function_of op) (arguments_of (a.cell ∷ b.cell ∷ [])))
+value_of_form form node row = silent_null
 
 -- the value of an expression on a row
 abbrev pub value_of : Expr → Row → Valued

@@ -1,4 +1,5 @@
-ghost use Rattle.std.specs.Prelude.{◌≡◌, ℤ, ◌+ℤ◌, [], ◌∷◌};
+ghost use Rattle.std.specs.Prelude.{◌≡◌, ℤ, ◌+ℤ◌, [], ◌∷◌, true};
+ghost use Rattle.row_semantics.specs.Built.{is_built_operator};
 ghost use Rattle.row_semantics.specs.Values.{function_of, sum_of, integer_of, long_of};
 
 use esql_ast::BinaryOp;
@@ -15,12 +16,14 @@ pub enum Computed {
     Nothing,
 }
 
-/// What an operator makes of two values.
+/// What an operator that is built makes of two values.
 pub fn compute(op: BinaryOp, left: &Value, right: &Value) -> Computed
+    requires { is_built_operator op ≡ true }
     ensures { result ≡ function_of op (left.now ∷ right.now ∷ []) }
 {
     match op {
         BinaryOp::Add => add(left, right),
+        _ => unreachable!(),
     }
 }
 

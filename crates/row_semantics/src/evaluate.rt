@@ -1,4 +1,5 @@
-ghost use Rattle.std.specs.Prelude.{◌≡◌, [], ◌∷◌, ◌++◌, IfOk, OnOk};
+ghost use Rattle.std.specs.Prelude.{◌≡◌, [], ◌∷◌, ◌++◌, true, IfOk, OnOk};
+ghost use Rattle.row_semantics.specs.Built.{IsBuilt, is_built_operator};
 ghost use Rattle.row_semantics.specs.Rows.{cell_at};
 ghost use Rattle.row_semantics.specs.Values.{value_of, single_at, arguments_of, computed_at, function_of};
 
@@ -8,14 +9,16 @@ use esql_ast::{BinaryOp, Expr, Form};
 use esql_types::{Cause, Cell, Failure, NodeId, Seq, Value};
 use std::alloc::{AllocError, Global};
 
-/// The value of an expression on a row; its failures are added in the order of its nodes. After want of memory some of
-/// them may stand there.
+/// The value on a row of an expression that is built; its failures are added in the order of its nodes. After want of
+/// memory some of them may stand there.
+#[tactic(auto, using(crate::proofs::Binaries::value_of_binary))]
 pub fn value_of(
     alloc: Global,
     expr: &Expr,
     row: &[NamedCell],
     failures: &mut Seq<Failure>,
 ) -> Result<Cell, AllocError>
+    requires { IsBuilt expr.now }
     ensures cell { IfOk result (λ cell. cell ≡ (value_of expr.now row.now).cell) }
     ensures failures { OnOk result (failures.new ≡ failures.old ++ (value_of expr.now row.now).failures) }
 {
@@ -23,11 +26,13 @@ pub fn value_of(
         Form::Constant { cell, .. } => cell.copy(),
         Form::List { values } => cell_of(alloc, values.as_slice()),
         Form::Column { name } => column_of(alloc, row, name.as_str()),
+        Form::Group { inner } => value_of(alloc, inner.get(), row, failures),
         Form::Binary { op, left, right } => {
             let left = value_of(alloc, left.get(), row, failures)?;
             let right = value_of(alloc, right.get(), row, failures)?;
             single(alloc, expr.node, *op, &left, &right, failures)
         }
+        _ => unreachable!(),
     }
 }
 
@@ -60,6 +65,7 @@ fn single(
     right: &Cell,
     failures: &mut Seq<Failure>,
 ) -> Result<Cell, AllocError>
+    requires { is_built_operator op ≡ true }
     ensures cell { IfOk result (λ cell.
         cell ≡ (single_at node (function_of op) (arguments_of (left.now ∷ right.now ∷ []))).cell) }
     ensures failures { OnOk result (failures.new ≡

@@ -1,5 +1,5 @@
-use Rattle.esql_parse.proofs.Unique.{spells_one}
+use Rattle.esql_parse.proofs.Accepts.{one_query}
 use Rattle.esql_parse.proofs.laws.one_query.Goals as goal
 
 pub returns : goal.returns
-returns c = spells_one
+returns c = one_query

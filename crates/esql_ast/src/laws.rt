@@ -1,0 +1,23 @@
+//! Laws of the numbers and the spans of a query.
+
+ghost use Rattle.std.specs.Prelude.{◌≡◌, ℕ, List};
+ghost use Rattle.esql_ast.specs.declared.query.Command.{Command};
+ghost use Rattle.esql_ast.specs.declared.query.SourceCommand.{SourceCommand};
+ghost use Rattle.esql_ast.specs.Fits.{QueryFits};
+ghost use Rattle.esql_ast.specs.Numbering.{numbered_query};
+ghost use Rattle.esql_ast.specs.Laws.{as_it_was, spans_of, IsNumbered};
+
+/// A law: the nodes of a numbered query have the numbers from 0 in written order, and it has as many nodes as it says.
+pub fn numbers_in_order()
+    ensures { (source : SourceCommand) (commands : List Command) → IsNumbered (numbered_query source commands) }
+{}
+
+/// A law: a numbered query's nodes stand where they stood, in the same order.
+pub fn numbering_keeps_spans()
+    ensures { (source : SourceCommand) (commands : List Command) → spans_of (numbered_query source commands) ≡ spans_of (as_it_was source commands) }
+{}
+
+/// A law: where the spans of a query are parts of a text, they still are once it is numbered.
+pub fn numbering_keeps_fit()
+    ensures { (text : List ℕ) (source : SourceCommand) (commands : List Command) → QueryFits text (as_it_was source commands) → QueryFits text (numbered_query source commands) }
+{}

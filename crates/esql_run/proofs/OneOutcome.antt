@@ -1,0 +1,134 @@
+-- Words have at most one outcome.
+use Rattle.std.proofs.Common.{false, Bool, ◌≡◌, inl, inr, ℕ, ◌<◌, List, [], ◌∷◌, length, slice_get, Some, refl, sym, ap, ◌∙◌, subst, arith}
+use Rattle.esql_lex.specs.declared.error.LexError.{LexError}
+use Rattle.esql_lex.specs.declared.error.LexError.TheVariants as fault
+use Rattle.esql_lex.specs.declared.token.Token.{Token}
+use Rattle.esql_lex.specs.Tokens.{Tokens, LexFault, slice_of}
+use Rattle.esql_ast.specs.declared.query.Query.{Query}
+use Rattle.esql_parse.specs.declared.error.ParseError.{ParseError}
+use Rattle.esql_parse.specs.declared.error.ParseError.TheVariants.{Unexpected, TooDeep, TooMany, Memory}
+use Rattle.esql_parse.specs.Spells.{Spells, Refuses}
+use Rattle.answer_text.specs.Messages.{longer_than_limit, unexpected_character, not_closed, unknown_escape, comment_not_closed, number_too_large, nested_too_deep, too_many_commands}
+use Rattle.esql_io.specs.Files.{Held}
+use Rattle.esql_run.specs.Bytes.{Outcome, refused}
+use Rattle.esql_run.specs.From.{is_one_table}
+use Rattle.esql_run.specs.Outcome.{IsQuery, IsAnswer, IsOutcome, AnswersBy, AnswersQuery, ReadsNoFile, outcome_of}
+use Rattle.esql_run.specs.Unread.{IsNoQuery, too_long, bad_character, open_string, bad_escape, open_comment, wide_number, unexpected, too_deep, too_many, HasFault, HasRefusal, unexpected_kind}
+
+-- where a fault stands, and what is said of it
+abbrev fault_at : LexError → ℕ
+fault_at (fault.BadCharacter at) = at
+fault_at (fault.OpenString at) = at
+fault_at (fault.BadEscape at) = at
+fault_at (fault.OpenComment at) = at
+fault_at (fault.WideNumber at) = at
+fault_at (fault.Memory error) = 0
+
+abbrev fault_said : LexError → List ℕ
+fault_said (fault.BadCharacter at) = unexpected_character
+fault_said (fault.OpenString at) = not_closed
+fault_said (fault.BadEscape at) = unknown_escape
+fault_said (fault.OpenComment at) = comment_not_closed
+fault_said (fault.WideNumber at) = number_too_large
+fault_said (fault.Memory error) = []
+
+-- the token that a refusal names, and what is said of it
+abbrev number_of : ParseError → ℕ
+number_of (Unexpected number) = number
+number_of (TooDeep number) = number
+number_of (TooMany number) = number
+number_of (Memory error) = 0
+
+abbrev refusal_said : List ℕ → Token → ParseError → List ℕ
+refusal_said text token (Unexpected number) = unexpected_kind token.kind (slice_of text token)
+refusal_said text token (TooDeep number) = nested_too_deep
+refusal_said text token (TooMany number) = too_many_commands
+refusal_said text token (Memory error) = []
+
+-- the three ways in which a text is no query
+data Reason (text : List ℕ) (at : ℕ) (message : List ℕ) : Type 0 where
+  by_length : 65536 < length text → at ≡ 0 → message ≡ longer_than_limit → Reason text at message
+  by_fault : (error : LexError) → HasFault text error → at ≡ fault_at error → message ≡ fault_said error → Reason text at message
+  by_refusal : (error : ParseError) (token : Token) → HasRefusal text error (number_of error) token → at ≡ token.span.from → message ≡ refusal_said text token error → Reason text at message
+
+reason : {text : List ℕ} {at : ℕ} {message : List ℕ} → IsNoQuery text at message → Reason text at message
+reason (too_long long) = by_length long refl refl
+reason (bad_character at has) = by_fault (fault.BadCharacter at) has refl refl
+reason (open_string at has) = by_fault (fault.OpenString at) has refl refl
+reason (bad_escape at has) = by_fault (fault.BadEscape at) has refl refl
+reason (open_comment at has) = by_fault (fault.OpenComment at) has refl refl
+reason (wide_number at has) = by_fault (fault.WideNumber at) has refl refl
+reason (unexpected number token has) = by_refusal (Unexpected number) token has refl refl
+reason (too_deep number token has) = by_refusal (TooDeep number) token has refl refl
+reason (too_many number token has) = by_refusal (TooMany number) token has refl refl
+
+-- the laws of tokens and of the grammar
+pub record Laws : Type 0 where
+  pub one_list : (text : List ℕ) (tokens others : List Token) → Tokens text tokens → Tokens text others → tokens ≡ others
+  pub one_fault : (text : List ℕ) (error other : LexError) → LexFault text error → LexFault text other → error ≡ other
+  pub not_both : (text : List ℕ) (tokens : List Token) (error : LexError) → Tokens text tokens → LexFault text error → ⊥
+  pub one_query : (text : List ℕ) (tokens : List Token) (query other : Query) → Spells text tokens query → Spells text tokens other → query ≡ other
+  pub one_refusal : (text : List ℕ) (tokens : List Token) (error other : ParseError) → Refuses text tokens error → Refuses text tokens other → error ≡ other
+  pub no_refusal : (text : List ℕ) (tokens : List Token) (query : Query) (error : ParseError) → Spells text tokens query → Refuses text tokens error → ⊥
+
+some_same : {A : Type 0} {a b : A} → Some a ≡ Some b → a ≡ b
+some_same e = cc
+
+abbrev Same : ℕ → List ℕ → ℕ → List ℕ → Type 0
+Same at message place words = (at ≡ place) × (message ≡ words)
+
+-- the same refusal of the same tokens names the same token
+same_token : (laws : Laws) (text : List ℕ) (e f : ParseError) (a b : Token) → HasRefusal text e (number_of e) a → HasRefusal text f (number_of f) b → (e ≡ f) × (a ≡ b)
+same_token laws text e f a b one other =
+    let tokens : one.tokens ≡ other.tokens = laws.one_list text one.tokens other.tokens one.lexed other.lexed in
+    let error : e ≡ f = laws.one_refusal text one.tokens e f one.refuses (subst (λ ts. Refuses text ts f) (sym tokens) other.refuses) in
+    let stands : slice_get one.tokens (number_of e) ≡ slice_get other.tokens (number_of f) = ap (λ ts. slice_get ts (number_of e)) tokens ∙ ap (λ x. slice_get other.tokens (number_of x)) error in
+    (error, some_same (sym one.stands ∙ stands ∙ other.stands))
+
+one_reason : (laws : Laws) (text : List ℕ) (at place : ℕ) (message words : List ℕ) → Reason text at message → Reason text place words → Same at message place words
+one_reason laws text at place message words (by_length _ a b) (by_length _ c d) = (a ∙ sym c, b ∙ sym d)
+one_reason laws text at place message words (by_length long a b) (by_fault f has c d) = let short = has.short in absurd (omega arith)
+one_reason laws text at place message words (by_length long a b) (by_refusal f t has c d) = let short = has.short in absurd (omega arith)
+one_reason laws text at place message words (by_fault e has a b) (by_length long c d) = let short = has.short in absurd (omega arith)
+one_reason laws text at place message words (by_fault e has a b) (by_fault f other c d) =
+    let same : e ≡ f = laws.one_fault text e f has.fault other.fault in
+    (a ∙ ap fault_at same ∙ sym c, b ∙ ap fault_said same ∙ sym d)
+one_reason laws text at place message words (by_fault e has a b) (by_refusal f t other c d) = absurd (laws.not_both text other.tokens e other.lexed has.fault)
+one_reason laws text at place message words (by_refusal e t has a b) (by_length long c d) = let short = has.short in absurd (omega arith)
+one_reason laws text at place message words (by_refusal e t has a b) (by_fault f other c d) = absurd (laws.not_both text has.tokens f has.lexed other.fault)
+one_reason laws text at place message words (by_refusal e t has a b) (by_refusal f u other c d) =
+    let same = same_token laws text e f t u has other in
+    (a ∙ ap (λ (x : Token). x.span.from) same.1 ∙ sym c, b ∙ ap (λ (x : Token). refusal_said text x e) same.1 ∙ ap (refusal_said text u) same.0 ∙ sym d)
+
+-- what has a query is refused nowhere
+no_reason : (laws : Laws) (text : List ℕ) (query : Query) (at : ℕ) (message : List ℕ) → IsQuery text query → Reason text at message → ⊥
+no_reason laws text query at message is (by_length long a b) = let short = is.short in omega arith
+no_reason laws text query at message is (by_fault e has a b) = laws.not_both text is.tokens e is.lexed has.fault
+no_reason laws text query at message is (by_refusal e t has a b) =
+    let tokens : is.tokens ≡ has.tokens = laws.one_list text is.tokens has.tokens is.lexed has.lexed in
+    laws.no_refusal text has.tokens query e (subst (λ ts. Spells text ts query) tokens is.spelled) has.refuses
+
+by_forms : (text : List ℕ) (held : Held) (query : Query) (outcome : Outcome) → is_one_table query ≡ false → AnswersQuery text held query outcome → outcome ≡ outcome_of text query
+by_forms text held query outcome none is =
+    subst (λ (b : Bool). AnswersBy b text held query outcome) none is
+
+same_query : (laws : Laws) (text : List ℕ) (query other : Query) → IsQuery text query → IsQuery text other → query ≡ other
+same_query laws text query other is was =
+    let tokens : is.tokens ≡ was.tokens = laws.one_list text is.tokens was.tokens is.lexed was.lexed in
+    laws.one_query text was.tokens query other (subst (λ ts. Spells text ts query) tokens is.spelled) was.spelled
+
+-- no file is read for the query of the words, if they have one
+pub one_answer : (laws : Laws) (text : List ℕ) (held : Held) (outcome other : Outcome) → ReadsNoFile text → IsAnswer text held outcome → IsAnswer text held other → outcome ≡ other
+one_answer laws text held outcome other reads (inl (query, is, e)) (inl (query2, was, f)) =
+    by_forms text held query outcome (reads query is) e ∙ ap (outcome_of text) (same_query laws text query query2 is was) ∙ sym (by_forms text held query2 other (reads query2 was) f)
+one_answer laws text held outcome other reads (inl (query, is, e)) (inr (at, message, none, f)) = absurd (no_reason laws text query at message is (reason none))
+one_answer laws text held outcome other reads (inr (at, message, none, e)) (inl (query, was, f)) = absurd (no_reason laws text query at message was (reason none))
+one_answer laws text held outcome other reads (inr (at, message, none, e)) (inr (place, words, also, f)) =
+    let same = one_reason laws text at place message words (reason none) (reason also) in
+    e ∙ ap (λ (p : ℕ). refused text p message) same.0 ∙ ap (refused text place) same.1 ∙ sym f
+
+pub one_outcome : (laws : Laws) (words : List (List ℕ)) (held : Held) (outcome other : Outcome) → ((text : List ℕ) → words ≡ text ∷ [] → ReadsNoFile text)
+    → IsOutcome words held outcome → IsOutcome words held other → outcome ≡ other
+one_outcome laws [] held outcome other reads e f = e ∙ sym f
+one_outcome laws (text ∷ []) held outcome other reads a b = one_answer laws text held outcome other (reads text refl) a b
+one_outcome laws (first ∷ second ∷ words) held outcome other reads e f = e ∙ sym f

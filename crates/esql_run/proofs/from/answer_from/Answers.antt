@@ -1,0 +1,46 @@
+use Rattle.std.proofs.Common.{◌≤◌, length, List, sym, subst, ap, ◌∙◌}
+use Rattle.esql_types.specs.declared.names.Column.{Column}
+use Rattle.esql_run.specs.Bytes.{refused}
+use Rattle.esql_run.specs.From.{columns_of}
+use Rattle.esql_run.proofs.Froms.{gather_halted, load_halted, no_column, all_loaded, empty_columns, some_columns, wide_for, shown_for, few_columns, source_fits, named_rows}
+use Rattle.esql_run.proofs.from.answer_from.Goals as goal
+
+pub returns-in-Err-clause-told : goal.returns-in-Err-clause-told
+returns-in-Err-clause-told g c =
+    gather_halted c.args.text.now (g.F.Files.holds c.args.files.now) c.args.span c.args.names.now c.in-Err.stop c.stopped.result c.in-Err.ensures.told c.stopped.ensures.stopped
+
+pub returns-then-len-eq0-clause-told : goal.returns-then-len-eq0-clause-told
+returns-then-len-eq0-clause-told g c =
+    no_column c.args.text.now (g.F.Files.holds c.args.files.now) c.args.span c.args.names.now c.in-Ok.sources _ c.in-Ok.ensures.told
+    (empty_columns c.in_ok-columns.columns c.as_slice.result.now c.in-Ok.sources c.len.result c.in_ok-columns.ensures c.as_slice.ensures c.len.ensures c.if-len-eq0.true)
+    (c.in_ok-refuse.ensures ∙ ap (refused c.args.text.now c.args.span.from) c.no_columns.ensures)
+
+pub show-requires-clause-few : goal.show-requires-clause-few
+show-requires-clause-few g c =
+    subst (λ (columns : List Column). length columns ≤ 100000) (sym (c.in_ok-columns.ensures ∙ ap columns_of c.as_slice.ensures)) (few_columns c.in-Ok.sources c.in-Ok.ensures.few)
+
+pub show-requires-clause-wide : goal.show-requires-clause-wide
+show-requires-clause-wide g c =
+    wide_for c.in_ok-columns.columns c.as_slice.result.now c.as_slice-2.result.now c.in-Ok.sources c.in-Ok-load.tables c.as_slice-in-Ok-load.result.now
+    c.in_ok-columns.ensures c.as_slice.ensures c.as_slice-2.ensures c.as_slice-in-Ok-load.ensures c.in-Ok-load.ensures.shaped
+
+pub returns-in-Ok-load-clause-told : goal.returns-in-Ok-load-clause-told
+returns-in-Ok-load-clause-told g c =
+    all_loaded c.args.text.now (g.F.Files.holds c.args.files.now) _ c.args.span c.args.names.now c.in-Ok.sources c.as_slice-2.result.now c.in-Ok-load.tables _ c.in-Ok.ensures.holds c.as_slice-2.ensures c.in-Ok.ensures.told
+    (some_columns c.in_ok-columns.columns c.as_slice.result.now c.in-Ok.sources c.len.result c.in_ok-columns.ensures c.as_slice.ensures c.len.ensures c.if-len-eq0.false)
+    c.in-Ok-load.ensures.told
+    (shown_for c.in_ok-columns.columns c.as_slice.result.now c.in-Ok.sources c.in-Ok-load.tables c.as_slice-in-Ok-load.result.now _ c.in_ok-columns.ensures c.as_slice.ensures c.as_slice-in-Ok-load.ensures c.in_ok-show-in-Ok-load.ensures.told)
+
+pub stopped-requires-in-Err-load : goal.stopped-requires-in-Err-load
+stopped-requires-in-Err-load g c = source_fits c.args.text.now c.args.names.now c.in-Ok.sources c.in-Err-load.stop c.in-Ok.ensures.names c.requires.names (rw c.as_slice-2.ensures at c.in-Err-load.ensures.place)
+
+pub returns-clause-told : goal.returns-clause-told
+returns-clause-told g c =
+    load_halted c.args.text.now (g.F.Files.holds c.args.files.now) _ c.args.span c.args.names.now c.in-Ok.sources c.as_slice-2.result.now c.in-Err-load.stop c.stopped-in-Err-load.result c.in-Ok.ensures.holds c.as_slice-2.ensures c.in-Ok.ensures.told
+    (some_columns c.in_ok-columns.columns c.as_slice.result.now c.in-Ok.sources c.len.result c.in_ok-columns.ensures c.as_slice.ensures c.len.ensures c.if-len-eq0.false)
+    c.in-Err-load.ensures.told c.stopped-in-Err-load.ensures.stopped
+
+pub returns-clause-named : goal.returns-clause-named
+returns-clause-named g c =
+    named_rows c.args.text.now c.args.names.now c.in-Ok.sources c.as_slice-2.result.now c.in-Err-load.stop c.stopped-in-Err-load.result c.as_slice-2.ensures c.in-Ok.ensures.names
+    c.stopped-in-Err-load.ensures.stopped c.in-Err-load.ensures.named

@@ -1,0 +1,4 @@
+mod Gathered
+mod Named
+mod Pushed
+mod Rowed

@@ -1,0 +1,6 @@
+pub mod Catalog
+pub mod Messages
+pub mod Reading
+pub mod Shapes
+pub mod Stops
+pub mod Uses
