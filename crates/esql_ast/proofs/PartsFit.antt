@@ -1,9 +1,9 @@
 -- Where an expression fits its text, its parts do.
-use Rattle.std.proofs.Common.{◌≡◌, ℕ, Bool, List, [], ◌∷◌, ◌++◌, length, take, drop, All, sym}
+use Rattle.std.proofs.Common.{◌≡◌, ℕ, Bool, List, [], ◌∷◌, ◌++◌, All, sym}
 use Rattle.std.specs.List.{flat_map}
-use Rattle.std.proofs.lemmas.List.Elements.{All-nil, All-cons, All-head, All-tail, All-same, All-take, All-drop}
-use Rattle.std.proofs.Math.Seq.{take-append_seam, drop-append_seam}
+use Rattle.std.proofs.lemmas.List.Elements.{All-nil, All-cons, All-head, All-tail, All-same}
 use Rattle.esql_types.specs.Spans.{SpanFits}
+use Rattle.esql_types.proofs.Lists.{All-front, All-back}
 use Rattle.esql_ast.specs.declared.nodes.NodeAt.{NodeAt}
 use Rattle.esql_ast.specs.declared.expr.Expr.{Expr}
 use Rattle.esql_ast.specs.declared.expr.BinaryOp.{BinaryOp}
@@ -14,12 +14,6 @@ use Rattle.esql_ast.specs.declared.query.TextAt.{TextAt}
 use Rattle.esql_ast.specs.Fits.{ExprFits, FormFits}
 use Rattle.esql_ast.specs.Nodes.{nodes_of_expr, nodes_of_form}
 use Rattle.esql_ast.proofs.Folds.{expr_nodes, group_nodes, call_nodes, minus_nodes, not_nodes, binary_nodes, within_nodes, like_nodes, is_null_nodes, cast_nodes}
-
-pub All-front : {X : Type 0} (P : X → Type 0) (xs ys : List X) → All P (xs ++ ys) → All P xs
-All-front P xs ys all = All-same P xs (take (length xs) (xs ++ ys)) (sym (take-append_seam xs ys)) (All-take P (length xs) (xs ++ ys) all)
-
-pub All-back : {X : Type 0} (P : X → Type 0) (xs ys : List X) → All P (xs ++ ys) → All P ys
-All-back P xs ys all = All-same P ys (drop (length xs) (xs ++ ys)) (sym (drop-append_seam xs ys)) (All-drop P (length xs) (xs ++ ys) all)
 
 -- the places within the text
 abbrev PlaceFits : List ℕ → NodeAt → Type 0

@@ -8,6 +8,9 @@ mod numbering;
 mod query;
 #[cfg(test)]
 mod tests;
+#[cfg(test)]
+mod tests_uses;
+mod uses;
 
 pub use expr::{BinaryOp, Expr, Form};
 pub use laws::{numbering_keeps_fit, numbering_keeps_spans, numbers_in_order};
@@ -17,3 +20,4 @@ pub use query::{
     Command, CommandKind, Condition, EnrichItem, Field, NameAt, NamePattern, Query, RenamePair,
     SortKey, SourceCommand, StatsField, TextAt,
 };
+pub use uses::{SourceUse, source_names};

@@ -10,9 +10,9 @@ use Rattle.esql_ast.specs.declared.expr.BinaryOp.TheVariants.{Add, Sub, Mul, Div
 use Rattle.esql_ast.specs.declared.expr.Expr.{Expr}
 use Rattle.esql_ast.specs.declared.query.NameAt.{NameAt}
 use Rattle.esql_ast.specs.declared.query.TextAt.{TextAt}
-use Rattle.esql_expr.specs.declared.lexeme.Lexeme.{Lexeme}
-use Rattle.esql_expr.specs.declared.lexeme.Lexeme.TheVariants.{Text, Word, Sign as Mark}
-use Rattle.esql_expr.specs.declared.machine.Part.{Part}
+use Rattle.esql_phrases.specs.declared.lexeme.Lexeme.{Lexeme}
+use Rattle.esql_phrases.specs.declared.lexeme.Lexeme.TheVariants.{Text, Word, Sign as Mark}
+use Rattle.esql_phrases.specs.declared.part.Part.{Part}
 use Rattle.esql_expr.specs.declared.machine.Frame.{Frame}
 use Rattle.esql_expr.specs.declared.machine.Frame.TheVariants.{Binary, Group, Minus, Not, Call, Within}
 use Rattle.esql_expr.specs.declared.machine.Top.TheVariants.{Want, Have, Named, Called, Casting, Listing, Listed}
@@ -20,63 +20,11 @@ use Rattle.esql_expr.specs.declared.machine.Reader.{Reader}
 use Rattle.esql_expr.specs.declared.machine.Stepped.TheVariants.{Goes, Stuck}
 use Rattle.esql_expr.specs.declared.machine.Opener.{Opener}
 use Rattle.esql_expr.specs.declared.machine.Opener.TheVariants.{Infix, Not as Denial, In, Like, Is, Cast}
-use Rattle.esql_expr.specs.Parts.{column_part, call_part, group_part, cast_part, minus_part, not_part, line_of, left_of, right_of, binary_part, within_part, like_part, is_null_part}
-use Rattle.esql_expr.specs.Phrases.{IsName, plain_name, dotted_name, quoted_name, IsKindName, plain_kind, dotted_kind, operator, Literal, number_literal, negative_literal, text_literal, true_literal, false_literal, Literals, one_literal, next_literal, InWords, in_word, not_in_words, like_word, rlike_word, LikeWords, likes, not_likes, IsWords, is_words, is_not_words, Phrase, looser, number_line, text_line, true_line, false_line, null_line, list_line, name_line, group_line, empty_line, star_line, call_line, cast_line, minus_line, not_line, binary_line, in_line, like_line, is_line, Items, one_item, next_item}
+use Rattle.esql_phrases.specs.Parts.{column_part, call_part, group_part, cast_part, minus_part, not_part, line_of, left_of, right_of, binary_part, within_part, like_part, is_null_part}
+use Rattle.esql_phrases.specs.Phrases.{IsName, plain_name, dotted_name, quoted_name, IsKindName, plain_kind, dotted_kind, operator, Literal, number_literal, negative_literal, text_literal, true_literal, false_literal, Literals, one_literal, next_literal, InWords, in_word, not_in_words, like_word, rlike_word, LikeWords, likes, not_likes, IsWords, is_words, is_not_words, Phrase, looser, number_line, text_line, true_line, false_line, null_line, list_line, name_line, group_line, empty_line, star_line, call_line, cast_line, minus_line, not_line, binary_line, in_line, like_line, is_line, Items, one_item, next_item}
 use Rattle.esql_expr.specs.Machine.{reader, hole, opener, operand_line, own_line, goes_to, feed, close, begin, after_name, after_open, step, going, and_then, walk}
+use Rattle.esql_phrases.proofs.Begins.{Beginner, Begins, begins, begins_items, not_empty}
 use Rattle.esql_expr.proofs.Walks.{walk-append, le_true, line_of_phrase, opener_operator, opens, feed_opens, leaves, NoParen, Stops, operator_follows, stops_wider, none_stops, some_stops, line_left, line_right}
-
--- it is neither what ends the arguments of a function nor `*`
-abbrev pub Beginner : Lexeme → Type 0
-Beginner (Mark sign.CloseParen at) = ⊥
-Beginner (Mark sign.Star at) = ⊥
-Beginner _ = Unit {0}
-
--- there is a first lexeme, with which an expression can begin
-pub record Begins (w : List Lexeme) : Type 0 where
-  pub first : Lexeme
-  pub rest : List Lexeme
-  pub whole : w ≡ first ∷ rest
-  pub can : Beginner first
-
-begins_so : (x : Lexeme) (w : List Lexeme) → Beginner x → Begins (x ∷ w)
-begins_so x w b = record { first = x; rest = w; whole = refl; can = b }
-
-begins_before : {w : List Lexeme} → Begins w → (v : List Lexeme) → Begins (w ++ v)
-begins_before b v = record { first = b.first; rest = b.rest ++ v; whole = ap (λ u. u ++ v) b.whole; can = b.can }
-
-begins_name : {x : Lexeme} {name : NameAt} → IsName x name → Begins (x ∷ [])
-begins_name (plain_name name) = begins_so _ _ tt
-begins_name (dotted_name name) = begins_so _ _ tt
-begins_name (quoted_name name) = begins_so _ _ tt
-
-pub begins : {n : ℕ} {w : List Lexeme} {p : Part} → Phrase n w p → Begins w
-begins (looser p) = begins p
-begins (number_line number at) = begins_so _ _ tt
-begins (text_line text) = begins_so _ _ tt
-begins (true_line at) = begins_so _ _ tt
-begins (false_line at) = begins_so _ _ tt
-begins (null_line at) = begins_so _ _ tt
-begins (list_line opening closing vs) = begins_so _ _ tt
-begins (name_line name) = begins_name name
-begins (group_line opening closing p) = begins_so _ _ tt
-begins (empty_line function opening closing) = begins_so _ _ tt
-begins (star_line function opening star closing) = begins_so _ _ tt
-begins (call_line function opening closing es) = begins_so _ _ tt
-begins (cast_line cast p kind) = begins_before (begins p) _
-begins (minus_line minus p) = begins_so _ _ tt
-begins (not_line not p) = begins_so _ _ tt
-begins (binary_line op at p q) = begins_before (begins p) _
-begins (in_line opening closing m p es) = begins_before (begins p) _
-begins (like_line pattern m p) = begins_before (begins p) _
-begins (is_line m p) = begins_before (begins p) _
-
-pub begins_items : {w : List Lexeme} {es : List Expr} {d : ℕ} → Items w es d → Begins w
-begins_items (one_item p) = begins p
-begins_items (next_item comma es p) = begins_before (begins_items es) _
-
--- a phrase is not empty
-pub not_empty : {n : ℕ} {w : List Lexeme} {p : Part} → Phrase n w p → (first : Lexeme) × (rest : List Lexeme) × (w ≡ first ∷ rest)
-not_empty p = let b = begins p in (b.first, b.rest, b.whole)
 
 -- a walk goes on from where another ended
 pub walk_from : (w v : List Lexeme) (from mid : Reader) → walk w from ≡ Some mid → walk (w ++ v) from ≡ walk v mid

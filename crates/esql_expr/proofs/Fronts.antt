@@ -1,11 +1,11 @@
 -- What the machine reads and ends, in terms of the grammar.
 use Rattle.std.proofs.Common.{◌≡◌, ℕ, ◌≤◌, List, [], ◌∷◌, ◌++◌, Some, refl, sym, ◌∙◌, subst, arith}
-use Rattle.esql_expr.specs.declared.lexeme.Lexeme.{Lexeme}
-use Rattle.esql_expr.specs.declared.lexeme.Lexeme.TheVariants.{End}
-use Rattle.esql_expr.specs.declared.machine.Part.{Part}
+use Rattle.esql_phrases.specs.declared.lexeme.Lexeme.{Lexeme}
+use Rattle.esql_phrases.specs.declared.lexeme.Lexeme.TheVariants.{End}
+use Rattle.esql_phrases.specs.declared.part.Part.{Part}
 use Rattle.esql_expr.specs.declared.machine.Reader.{Reader}
 use Rattle.esql_expr.specs.declared.machine.Stepped.TheVariants.{Goes, Ends}
-use Rattle.esql_expr.specs.Phrases.{Phrase}
+use Rattle.esql_phrases.specs.Phrases.{Phrase}
 use Rattle.esql_expr.specs.Machine.{start, step, going, walk, need}
 use Rattle.esql_expr.proofs.Walks.{walk-append}
 use Rattle.esql_expr.proofs.Whole.{ends_at}

@@ -9,9 +9,9 @@ use Rattle.esql_lex.specs.declared.token.Sign.{Sign}
 use Rattle.esql_lex.specs.declared.token.Sign.TheVariants as sign
 use Rattle.esql_ast.specs.declared.expr.Expr.{Expr}
 use Rattle.esql_ast.specs.declared.query.NameAt.{NameAt}
-use Rattle.esql_expr.specs.declared.lexeme.Lexeme.{Lexeme}
-use Rattle.esql_expr.specs.declared.lexeme.Lexeme.TheVariants.{Plain, Dotted, Quoted, Text, Number, Word, Sign as Mark}
-use Rattle.esql_expr.specs.declared.machine.Part.{Part}
+use Rattle.esql_phrases.specs.declared.lexeme.Lexeme.{Lexeme}
+use Rattle.esql_phrases.specs.declared.lexeme.Lexeme.TheVariants.{Plain, Dotted, Quoted, Text, Number, Word, Sign as Mark}
+use Rattle.esql_phrases.specs.declared.part.Part.{Part}
 use Rattle.esql_expr.specs.declared.machine.Frame.{Frame}
 use Rattle.esql_expr.specs.declared.machine.Frame.TheVariants.{Binary, Group, Minus, Not, Call, Within}
 use Rattle.esql_expr.specs.declared.machine.Top.{Top}
@@ -21,7 +21,7 @@ use Rattle.esql_expr.specs.declared.machine.Stepped.{Stepped}
 use Rattle.esql_expr.specs.declared.machine.Stepped.TheVariants.{Goes, Ends, Stuck}
 use Rattle.esql_expr.specs.declared.machine.Opener.{Opener}
 use Rattle.esql_expr.specs.declared.machine.Opener.TheVariants.{Infix, Not as Denial, In, Like, Is, Cast}
-use Rattle.esql_expr.specs.Parts.{column_part, minus_part, not_part, binary_part}
+use Rattle.esql_phrases.specs.Parts.{column_part, minus_part, not_part, binary_part}
 use Rattle.esql_expr.specs.Machine.{start, hole, opener, takes, goes_to, opened_by, or_closed, close_group, close_call, close_within, feed, begin_word, begin_sign, begin, after_name, after_open, after_star, after_not, after_in, after_like, after_is, after_is_not, after_cast, in_list, after_minus, after_literal, step_at, step, up, depth_at, need}
 
 -- a deeper part makes no shallower whole

@@ -1,13 +1,10 @@
 pub mod Complete
 pub mod Depths
 pub mod Feeds
-pub mod Fits
 pub mod Fronts
 pub mod Grows
 pub mod Reached
 pub mod Sound
-pub mod Spans
-pub mod Stands
 pub mod Viable
 pub mod Walks
 pub mod Whole

@@ -7,9 +7,9 @@ use Rattle.esql_lex.specs.declared.token.Sign.TheVariants as sign
 use Rattle.esql_ast.specs.declared.expr.BinaryOp.{BinaryOp}
 use Rattle.esql_ast.specs.declared.expr.Expr.{Expr}
 use Rattle.esql_ast.specs.declared.query.NameAt.{NameAt}
-use Rattle.esql_expr.specs.declared.lexeme.Lexeme.{Lexeme}
-use Rattle.esql_expr.specs.declared.lexeme.Lexeme.TheVariants.{Plain, Word, Sign as Mark}
-use Rattle.esql_expr.specs.declared.machine.Part.{Part}
+use Rattle.esql_phrases.specs.declared.lexeme.Lexeme.{Lexeme}
+use Rattle.esql_phrases.specs.declared.lexeme.Lexeme.TheVariants.{Plain, Word, Sign as Mark}
+use Rattle.esql_phrases.specs.declared.part.Part.{Part}
 use Rattle.esql_expr.specs.declared.machine.Frame.{Frame}
 use Rattle.esql_expr.specs.declared.machine.Frame.TheVariants.{Binary, Group, Minus, Not, Call, Within}
 use Rattle.esql_expr.specs.declared.machine.Top.{Top}
@@ -17,8 +17,8 @@ use Rattle.esql_expr.specs.declared.machine.Top.TheVariants.{Want, Have, Named, 
 use Rattle.esql_expr.specs.declared.machine.Reader.{Reader}
 use Rattle.esql_expr.specs.declared.machine.Stepped.{Stepped}
 use Rattle.esql_expr.specs.declared.machine.Stepped.TheVariants.{Goes, Ends, Stuck}
-use Rattle.esql_expr.specs.Parts.{line_of, left_of}
-use Rattle.esql_expr.specs.Phrases.{operator, InWords, LikeWords, Literals, Phrase, Items}
+use Rattle.esql_phrases.specs.Parts.{line_of, left_of}
+use Rattle.esql_phrases.specs.Phrases.{operator, InWords, LikeWords, Literals, Phrase, Items}
 use Rattle.esql_expr.specs.Machine.{hole}
 
 -- the items so far, each with its comma

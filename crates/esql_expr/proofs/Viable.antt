@@ -6,15 +6,15 @@ use Rattle.esql_lex.specs.declared.token.Reserved.TheVariants as word
 use Rattle.esql_lex.specs.declared.token.Sign.TheVariants as sign
 use Rattle.esql_ast.specs.declared.query.NameAt.{NameAt}
 use Rattle.esql_ast.specs.declared.query.TextAt.{TextAt}
-use Rattle.esql_expr.specs.declared.lexeme.Lexeme.{Lexeme}
-use Rattle.esql_expr.specs.declared.lexeme.Lexeme.TheVariants.{Plain, Text, Number, Word, Sign as Mark}
-use Rattle.esql_expr.specs.declared.machine.Part.{Part}
+use Rattle.esql_phrases.specs.declared.lexeme.Lexeme.{Lexeme}
+use Rattle.esql_phrases.specs.declared.lexeme.Lexeme.TheVariants.{Plain, Text, Number, Word, Sign as Mark}
+use Rattle.esql_phrases.specs.declared.part.Part.{Part}
 use Rattle.esql_expr.specs.declared.machine.Frame.{Frame}
 use Rattle.esql_expr.specs.declared.machine.Frame.TheVariants.{Binary, Group, Minus, Not, Call, Within}
 use Rattle.esql_expr.specs.declared.machine.Top.{Top}
 use Rattle.esql_expr.specs.declared.machine.Top.TheVariants.{Want, Have, Named, Called, Starred, Denied, Among, Matching, Testing, TestingNot, Casting, Listing, Negating, Listed}
-use Rattle.esql_expr.specs.Parts.{number_value, constant_part}
-use Rattle.esql_expr.specs.Phrases.{plain_name, plain_kind, Literal, number_literal, negative_literal, like_word, not_likes, is_words, is_not_words, Phrase, looser, number_line, text_line, true_line, false_line, null_line, list_line, name_line, group_line, empty_line, star_line, call_line, cast_line, minus_line, not_line, binary_line, in_line, like_line, is_line, one_item}
+use Rattle.esql_phrases.specs.Parts.{number_value, constant_part}
+use Rattle.esql_phrases.specs.Phrases.{plain_name, plain_kind, Literal, number_literal, negative_literal, like_word, not_likes, is_words, is_not_words, Phrase, looser, number_line, text_line, true_line, false_line, null_line, list_line, name_line, group_line, empty_line, star_line, call_line, cast_line, minus_line, not_line, binary_line, in_line, like_line, is_line, one_item}
 use Rattle.esql_expr.specs.Machine.{hole}
 use Rattle.esql_expr.proofs.Walks.{lift}
 use Rattle.esql_expr.proofs.Reached.{Before, nothing_open, binary_open, group_open, minus_open, not_open, call_open, within_open, Read, wants, has, names, calls, stars, denies, amongs, matches, tests, tests_not, casts, lists, negates, listed}

@@ -11,18 +11,19 @@ use Rattle.esql_lex.specs.declared.token.Sign.{Sign}
 use Rattle.esql_lex.specs.declared.token.Sign.TheVariants as sign
 use Rattle.esql_ast.specs.declared.expr.BinaryOp.{BinaryOp}
 use Rattle.esql_ast.specs.declared.expr.BinaryOp.TheVariants.{Add, Sub, Mul, Div, Mod, Eq, Ne, Lt, Le, Gt, Ge, And, Or}
-use Rattle.esql_expr.specs.declared.lexeme.Lexeme.{Lexeme}
-use Rattle.esql_expr.specs.declared.lexeme.Lexeme.TheVariants.{Word, Sign as Mark}
-use Rattle.esql_expr.specs.declared.machine.Part.{Part}
+use Rattle.esql_phrases.specs.declared.lexeme.Lexeme.{Lexeme}
+use Rattle.esql_phrases.specs.declared.lexeme.Lexeme.TheVariants.{Word, Sign as Mark}
+use Rattle.esql_phrases.specs.declared.part.Part.{Part}
 use Rattle.esql_expr.specs.declared.machine.Frame.{Frame}
 use Rattle.esql_expr.specs.declared.machine.Frame.TheVariants.{Binary, Group, Minus, Not, Call, Within}
 use Rattle.esql_expr.specs.declared.machine.Reader.{Reader}
 use Rattle.esql_expr.specs.declared.machine.Stepped.TheVariants.{Goes}
 use Rattle.esql_expr.specs.declared.machine.Opener.{Opener}
 use Rattle.esql_expr.specs.declared.machine.Opener.TheVariants.{Infix, Not as Denial, In, Like, Is, Cast}
-use Rattle.esql_expr.specs.Parts.{line_of, left_of, right_of}
-use Rattle.esql_expr.specs.Phrases.{operator, LikeWord, like_word, rlike_word, Phrase, looser, number_line, text_line, true_line, false_line, null_line, list_line, name_line, group_line, empty_line, star_line, call_line, cast_line, minus_line, not_line, binary_line, in_line, like_line, is_line}
+use Rattle.esql_phrases.specs.Parts.{line_of, left_of, right_of}
+use Rattle.esql_phrases.specs.Phrases.{operator, LikeWord, like_word, rlike_word, Phrase, looser, number_line, text_line, true_line, false_line, null_line, list_line, name_line, group_line, empty_line, star_line, call_line, cast_line, minus_line, not_line, binary_line, in_line, like_line, is_line}
 use Rattle.esql_expr.specs.Machine.{hole, word_opener, sign_opener, opener, operand_line, own_line, goes_to, opened_by, opened, or_closed, feed, close, step, going, and_then, walk}
+use Rattle.esql_expr.proofs.Feeds.{feed_closes_or_opens}
 
 pub and_then_assoc : {A B C : Type 0} (o : Option A) (f : A → Option B) (g : B → Option C) → and_then (and_then o f) g ≡ and_then o (λ a. and_then (f a) g)
 and_then_assoc None f g = refl
@@ -96,21 +97,11 @@ opens o x least frames part e h k =
     ap (λ r. opened_by r least frames part) e
     ∙ ap (λ b. if b then Some (goes_to o least frames part) else None) (both _ _ (le_true (operand_line o) part.line h) (le_true (hole least frames) (own_line o) k))
 
-pub feed_is : (least : ℕ) (frames : List Frame) (part : Part) (next : Lexeme) → feed least frames part next ≡ or_closed (opened least frames part next) (close least frames part next)
-unfolding feed close
-feed_is least [] part next = refl
-feed_is least (Binary op left ∷ above) part next = refl
-feed_is least (Group opening ∷ above) part next = refl
-feed_is least (Minus minus ∷ above) part next = refl
-feed_is least (Not not ∷ above) part next = refl
-feed_is least (Call function args depth ∷ above) part next = refl
-feed_is least (Within negated left items depth ∷ above) part next = refl
-
 pub feed_opens : (least : ℕ) (frames : List Frame) (part : Part) (x : Lexeme) (to : Reader) → opened least frames part x ≡ Some to → feed least frames part x ≡ Goes to
-feed_opens least frames part x to e = feed_is least frames part x ∙ ap (λ o. or_closed o (close least frames part x)) e
+feed_opens least frames part x to e = feed_closes_or_opens least frames part x ∙ ap (λ o. or_closed o (close least frames part x)) e
 
 pub feed_closes : (least : ℕ) (frames : List Frame) (part : Part) (x : Lexeme) → opened least frames part x ≡ None → feed least frames part x ≡ close least frames part x
-feed_closes least frames part x e = feed_is least frames part x ∙ ap (λ o. or_closed o (close least frames part x)) e
+feed_closes least frames part x e = feed_closes_or_opens least frames part x ∙ ap (λ o. or_closed o (close least frames part x)) e
 
 -- it may follow a name that is a column
 abbrev pub NoParen : Lexeme → Type 0

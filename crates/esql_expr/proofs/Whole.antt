@@ -1,11 +1,11 @@
 -- What a phrase is for those who read on after it.
 use Rattle.std.proofs.Common.{◌≡◌, ℕ, List, [], Option, Some, None, refl, sym, ◌∙◌, ap, arith}
-use Rattle.esql_expr.specs.declared.lexeme.Lexeme.{Lexeme}
-use Rattle.esql_expr.specs.declared.lexeme.Lexeme.TheVariants.{End}
-use Rattle.esql_expr.specs.declared.machine.Part.{Part}
+use Rattle.esql_phrases.specs.declared.lexeme.Lexeme.{Lexeme}
+use Rattle.esql_phrases.specs.declared.lexeme.Lexeme.TheVariants.{End}
+use Rattle.esql_phrases.specs.declared.part.Part.{Part}
 use Rattle.esql_expr.specs.declared.machine.Reader.{Reader}
 use Rattle.esql_expr.specs.declared.machine.Stepped.TheVariants.{Ends}
-use Rattle.esql_expr.specs.Phrases.{Phrase}
+use Rattle.esql_phrases.specs.Phrases.{Phrase}
 use Rattle.esql_expr.specs.Machine.{start, opener, close, step, walk}
 use Rattle.esql_expr.proofs.Walks.{leaves_all, NoParen, none_stops}
 use Rattle.esql_expr.proofs.Complete.{reads}

@@ -10,9 +10,9 @@ use Rattle.esql_lex.specs.declared.token.Sign.TheVariants as sign
 use Rattle.esql_ast.specs.declared.expr.BinaryOp.TheVariants.{Add, Sub, Mul, Div, Mod, Eq, Ne, Lt, Le, Gt, Ge, And, Or}
 use Rattle.esql_ast.specs.declared.expr.Expr.{Expr}
 use Rattle.esql_ast.specs.declared.query.NameAt.{NameAt}
-use Rattle.esql_expr.specs.declared.lexeme.Lexeme.{Lexeme}
-use Rattle.esql_expr.specs.declared.lexeme.Lexeme.TheVariants.{Plain, Dotted, Quoted, Text, Number, Word, Sign as Mark}
-use Rattle.esql_expr.specs.declared.machine.Part.{Part}
+use Rattle.esql_phrases.specs.declared.lexeme.Lexeme.{Lexeme}
+use Rattle.esql_phrases.specs.declared.lexeme.Lexeme.TheVariants.{Plain, Dotted, Quoted, Text, Number, Word, Sign as Mark}
+use Rattle.esql_phrases.specs.declared.part.Part.{Part}
 use Rattle.esql_expr.specs.declared.machine.Frame.{Frame}
 use Rattle.esql_expr.specs.declared.machine.Frame.TheVariants.{Binary, Group, Minus, Not, Call, Within}
 use Rattle.esql_expr.specs.declared.machine.Top.{Top}
@@ -22,7 +22,7 @@ use Rattle.esql_expr.specs.declared.machine.Stepped.{Stepped}
 use Rattle.esql_expr.specs.declared.machine.Stepped.TheVariants.{Goes, Ends, Stuck}
 use Rattle.esql_expr.specs.declared.machine.Opener.{Opener}
 use Rattle.esql_expr.specs.declared.machine.Opener.TheVariants.{Infix, Not as Denial, In, Like, Is, Cast}
-use Rattle.esql_expr.specs.Parts.{number_value, negative_value, constant_part, null_part, list_part, column_part, star_part, call_part, group_part, cast_part, minus_part, not_part, line_of, left_of, right_of, binary_part, within_part, like_part, is_null_part}
+use Rattle.esql_phrases.specs.Parts.{number_value, negative_value, constant_part, null_part, list_part, column_part, star_part, call_part, group_part, cast_part, minus_part, not_part, line_of, left_of, right_of, binary_part, within_part, like_part, is_null_part}
 
 abbrev pub reader : ℕ → List Frame → Top → Reader
 reader least frames top = record { least = least; frames = frames; top = top }

@@ -1,16 +1,15 @@
 //! After an expression: what goes on with it, or else what ends it.
 
 ghost use Rattle.std.specs.Prelude.{◌≡◌, ◌≤◌, ◌<◌, max, None, Some, IfOk, MatchOption};
-ghost use Rattle.esql_expr.specs.Parts.{line_of, left_of, right_of};
+ghost use Rattle.esql_phrases.specs.Parts.{line_of, left_of, right_of};
 ghost use Rattle.esql_expr.specs.Machine.{hole, word_opener, sign_opener, opener, operand_line, own_line, takes, goes_to, opened, feed, close, up};
 
-use crate::Lexeme;
 use crate::lists::{close_call, close_group, close_within};
-use crate::machine::{Frame, Opener, Part, Reader, Stepped, Top};
-use crate::parts::{binary_part, line_of, minus_part, not_part};
+use crate::machine::{Frame, Opener, Reader, Stepped, Top};
 use crate::stack::Stack;
 use esql_ast::BinaryOp;
 use esql_lex::{Reserved, Sign};
+use esql_phrases::{Lexeme, Part, binary_part, line_of, minus_part, not_part};
 use std::alloc::{AllocError, Global};
 
 fn right_of(op: BinaryOp) -> u8
@@ -186,44 +185,36 @@ fn close(
     requires { up frames part.depth ≤ 100 }
     ensures { IfOk result (λ stepped. stepped ≡ close least frames part next) }
 {
-    match frames.pop() {
-        None => Ok(Stepped::Ends { part, next }),
-        Some(Frame::Binary { op, left }) => {
+    let Some(frame) = frames.pop() else {
+        return Ok(Stepped::Ends { part, next });
+    };
+    match frame {
+        Frame::Binary { op, left } => {
             let part = binary_part(alloc, op, left, part)?;
             feed(alloc, least, frames, part, next)
         }
-        Some(Frame::Group { opening }) => close_group(alloc, next, least, frames, opening, part),
-        Some(Frame::Minus { sign }) => {
+        Frame::Group { opening } => close_group(alloc, next, least, frames, opening, part),
+        Frame::Minus { sign } => {
             let part = minus_part(alloc, sign, part)?;
             feed(alloc, least, frames, part, next)
         }
-        Some(Frame::Not { word }) => {
+        Frame::Not { word } => {
             let part = not_part(alloc, word, part)?;
             feed(alloc, least, frames, part, next)
         }
-        Some(
-            Frame::Call {
-                function,
-                mut args,
-                depth,
-            },
-        ) => {
-            let depth = depth.max(part.depth);
-            args.push(part.expr)?;
-            close_call(next, least, frames, function, args, depth)
-        }
-        Some(
-            Frame::Within {
-                negated,
-                left,
-                mut items,
-                depth,
-            },
-        ) => {
-            let depth = depth.max(part.depth);
-            items.push(part.expr)?;
-            close_within(alloc, next, least, frames, negated, left, items, depth)
-        }
+        Frame::Call {
+            function,
+            args,
+            depth,
+        } => close_call(next, least, frames, function, args, depth, part),
+        Frame::Within {
+            negated,
+            left,
+            items,
+            depth,
+        } => close_within(
+            alloc, next, least, frames, negated, left, items, depth, part,
+        ),
     }
 }
 

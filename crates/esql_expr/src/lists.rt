@@ -1,14 +1,13 @@
 //! What ends a group, and an item of a list.
 
-ghost use Rattle.std.specs.Prelude.{◌≡◌, ◌<◌, max, IfOk};
+ghost use Rattle.std.specs.Prelude.{◌≡◌, ◌<◌, max, [], ◌∷◌, ◌++◌, IfOk};
 ghost use Rattle.esql_expr.specs.Machine.{close_group, close_call, close_within, goes};
 
-use crate::Lexeme;
-use crate::machine::{Frame, Part, Reader, Stepped, Top};
-use crate::parts::{call_part, group_part, within_part};
+use crate::machine::{Frame, Reader, Stepped, Top};
 use crate::stack::Stack;
 use esql_ast::{Expr, NameAt};
 use esql_lex::Sign;
+use esql_phrases::{Lexeme, Part, call_part, group_part, within_part};
 use esql_types::{Seq, Span};
 use std::alloc::{AllocError, Global};
 
@@ -46,12 +45,15 @@ pub(crate) fn close_call(
     least: u8,
     mut above: Stack<Frame>,
     function: NameAt,
-    args: Seq<Expr>,
+    mut args: Seq<Expr>,
     depth: u32,
+    part: Part,
 ) -> Result<Stepped, AllocError>
-    requires { depth < 4294967295 }
-    ensures { IfOk result (λ stepped. stepped ≡ close_call next least above function args depth) }
+    requires { max depth part.depth < 4294967295 }
+    ensures { IfOk result (λ stepped. stepped ≡ close_call next least above function (args ++ part.expr ∷ []) (max depth part.depth)) }
 {
+    let depth = depth.max(part.depth);
+    args.push(part.expr)?;
     match next {
         Lexeme::Sign {
             sign: Sign::Comma,
@@ -82,12 +84,15 @@ pub(crate) fn close_within(
     mut above: Stack<Frame>,
     negated: bool,
     left: Part,
-    items: Seq<Expr>,
+    mut items: Seq<Expr>,
     depth: u32,
+    part: Part,
 ) -> Result<Stepped, AllocError>
-    requires { max left.depth depth < 4294967295 }
-    ensures { IfOk result (λ stepped. stepped ≡ close_within next least above negated left items depth) }
+    requires { max left.depth (max depth part.depth) < 4294967295 }
+    ensures { IfOk result (λ stepped. stepped ≡ close_within next least above negated left (items ++ part.expr ∷ []) (max depth part.depth)) }
 {
+    let depth = depth.max(part.depth);
+    items.push(part.expr)?;
     match next {
         Lexeme::Sign {
             sign: Sign::Comma,

@@ -3,12 +3,11 @@
 ghost use Rattle.std.specs.Prelude.{◌≡◌, IfOk};
 ghost use Rattle.esql_expr.specs.Machine.{in_list, after_minus, after_literal};
 
-use crate::Lexeme;
 use crate::lists::goes;
 use crate::machine::{Frame, Stepped, Top};
-use crate::parts::{list_part, negative_value, number_value};
 use crate::stack::Stack;
 use esql_lex::{Reserved, Sign};
+use esql_phrases::{Lexeme, list_part, negative_value, number_value};
 use esql_types::{Seq, Span, Value};
 use std::alloc::AllocError;
 

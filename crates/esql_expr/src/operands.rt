@@ -3,12 +3,11 @@
 ghost use Rattle.std.specs.Prelude.{◌≡◌, ◌<◌, IfOk};
 ghost use Rattle.esql_expr.specs.Machine.{after_not, after_in, after_like, after_is, after_is_not, after_cast};
 
-use crate::Lexeme;
 use crate::lists::goes;
-use crate::machine::{Frame, Part, Stepped, Top};
-use crate::parts::{cast_part, is_null_part, like_part};
+use crate::machine::{Frame, Stepped, Top};
 use crate::stack::Stack;
 use esql_lex::{Reserved, Sign};
+use esql_phrases::{Lexeme, Part, cast_part, is_null_part, like_part};
 use esql_types::Seq;
 use std::alloc::{AllocError, Global};
 

@@ -3,16 +3,17 @@
 ghost use Rattle.std.specs.Prelude.{◌≡◌, ◌≤◌, IfOk};
 ghost use Rattle.esql_expr.specs.Machine.{start, begin_word, begin_sign, begin, after_name, after_open, after_star, step, up, need};
 
-use crate::Lexeme;
 use crate::feed::{feed, hole};
 use crate::lists::goes;
 use crate::literals::{after_literal, after_minus, in_list};
 use crate::machine::{Frame, Reader, Stepped, Top};
 use crate::operands::{after_cast, after_in, after_is, after_is_not, after_like, after_not};
-use crate::parts::{call_part, column_part, constant_part, null_part, number_value, star_part};
 use crate::stack::Stack;
 use esql_ast::NameAt;
 use esql_lex::{Reserved, Sign};
+use esql_phrases::{
+    Lexeme, call_part, column_part, constant_part, null_part, number_value, star_part,
+};
 use esql_types::{Seq, Span, Value};
 use std::alloc::{AllocError, Global};
 

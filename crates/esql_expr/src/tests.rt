@@ -1,9 +1,10 @@
 ghost use Rattle.std.specs.Prelude.{◌≤◌, length, All};
 ghost use Rattle.esql_lex.specs.Tokens.{IsPartOf};
 
-use crate::{Reader, Stepped, lexeme_of};
+use crate::{Reader, Stepped};
 use esql_ast::{Expr, Form};
 use esql_lex::{Token, lex};
+use esql_phrases::lexeme_of;
 use esql_types::Value;
 use std::alloc::{AllocError, Global};
 use std::test::Fail;

@@ -7,18 +7,20 @@ use Rattle.esql_lex.specs.declared.token.Token.{Token}
 use Rattle.esql_ast.specs.declared.query.NameAt.{NameAt}
 use Rattle.esql_ast.specs.declared.query.Query.{Query}
 use Rattle.esql_ast.specs.Numbering.{numbered_query}
-use Rattle.esql_expr.specs.declared.lexeme.Lexeme.{Lexeme}
-use Rattle.esql_expr.specs.declared.lexeme.Lexeme.TheVariants.{Plain, Sign as Mark, End}
-use Rattle.esql_expr.specs.Parts.{join}
+use Rattle.esql_phrases.specs.declared.lexeme.Lexeme.{Lexeme}
+use Rattle.esql_phrases.specs.declared.lexeme.Lexeme.TheVariants.{Plain, Sign as Mark, End}
+use Rattle.esql_phrases.specs.Parts.{join}
 use Rattle.esql_parse.specs.declared.state.Written.{Written}
-use Rattle.esql_parse.specs.declared.state.Point.TheVariants as point
-use Rattle.esql_parse.specs.declared.state.Inside.{Inside}
-use Rattle.esql_parse.specs.declared.state.Inside.TheVariants.{At, Done}
+use Rattle.esql_commands.specs.declared.point.Point.TheVariants as point
+use Rattle.esql_commands.specs.declared.point.Inside.{Inside}
+use Rattle.esql_commands.specs.declared.point.Inside.TheVariants.{At, Done}
 use Rattle.esql_parse.specs.declared.state.State.{State}
-use Rattle.esql_parse.specs.declared.state.Body.{Body}
-use Rattle.esql_parse.specs.declared.state.CommandWord.{CommandWord}
-use Rattle.esql_parse.specs.Grammar.{Says, from_says, row_says, last_span, CommandLine, command_line, begin_with, go_on_with, with_body, Piped, source_line, pipe_line, SpellsQuery, query_line}
-use Rattle.esql_parse.specs.Machine.{begin_source, begin_command, moved, ended_with, ended, step, start, walk}
+use Rattle.esql_commands.specs.declared.point.Body.{Body}
+use Rattle.esql_commands.specs.declared.point.CommandWord.{CommandWord}
+use Rattle.esql_commands.specs.Grammar.{Says, from_says, row_says, last_span, CommandLine, command_line}
+use Rattle.esql_parse.specs.Grammar.{begin_with, go_on_with, with_body, Piped, source_line, pipe_line, SpellsQuery, query_line}
+use Rattle.esql_commands.specs.Points.{begin_source, begin_command}
+use Rattle.esql_parse.specs.Machine.{moved, ended_with, ended, step, start, walk}
 use Rattle.esql_parse.specs.Spells.{Spells}
 use Rattle.esql_parse.proofs.Steps.{walk_from, walk_on, stand}
 use Rattle.esql_parse.proofs.Commands.{inside_of, reads_body}

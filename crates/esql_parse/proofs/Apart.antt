@@ -1,21 +1,22 @@
 -- What a step makes of a state is made of what it stands inside alone, and of its other parts.
 use Rattle.std.proofs.Common.{◌≡◌, refl, ℕ, max, Option, Some, None, Result, IfOk, sym, ◌∙◌, ap, subst}
 use Rattle.esql_lex.specs.declared.token.Sign.TheVariants as sign
-use Rattle.esql_expr.specs.declared.lexeme.Lexeme.{Lexeme}
-use Rattle.esql_expr.specs.declared.lexeme.Lexeme.TheVariants.{Sign as Mark, End}
+use Rattle.esql_phrases.specs.declared.lexeme.Lexeme.{Lexeme}
+use Rattle.esql_phrases.specs.declared.lexeme.Lexeme.TheVariants.{Sign as Mark, End}
 use Rattle.esql_expr.specs.declared.machine.Stepped.{Stepped}
 use Rattle.esql_expr.specs.declared.machine.Stepped.TheVariants.{Goes, Ends, Stuck}
 use Rattle.esql_expr.specs.declared.machine.Reader.{Reader}
 use Rattle.esql_expr.specs.Machine as expr
 use Rattle.esql_parse.specs.declared.state.Written.{Written}
-use Rattle.esql_parse.specs.declared.state.Body.{Body}
-use Rattle.esql_parse.specs.declared.state.Slot.{Slot}
-use Rattle.esql_parse.specs.declared.state.Point.{Point}
-use Rattle.esql_parse.specs.declared.state.Point.TheVariants as point
-use Rattle.esql_parse.specs.declared.state.Inside.{Inside}
-use Rattle.esql_parse.specs.declared.state.Inside.TheVariants.{Open, At, Done}
+use Rattle.esql_commands.specs.declared.point.Body.{Body}
+use Rattle.esql_commands.specs.declared.point.Slot.{Slot}
+use Rattle.esql_commands.specs.declared.point.Point.{Point}
+use Rattle.esql_commands.specs.declared.point.Point.TheVariants as point
+use Rattle.esql_commands.specs.declared.point.Inside.{Inside}
+use Rattle.esql_commands.specs.declared.point.Inside.TheVariants.{Open, At, Done}
 use Rattle.esql_parse.specs.declared.state.State.{State}
-use Rattle.esql_parse.specs.Machine.{ended_with, ended, moved, step_point, step_expr, step_inside, step, after_point, body_at}
+use Rattle.esql_commands.specs.Points.{after_point, body_at}
+use Rattle.esql_parse.specs.Machine.{ended_with, ended, moved, step_point, step_expr, step_inside, step}
 
 abbrev pub put_inside : State → Inside → State
 put_inside s inside = record { before = s.before; deepest = s.deepest; word = s.word; last = s.last; inside = inside }

@@ -4,22 +4,22 @@ use Rattle.esql_lex.specs.declared.token.Reserved.TheVariants as word
 use Rattle.esql_lex.specs.declared.token.Sign.TheVariants as sign
 use Rattle.esql_ast.specs.declared.query.Field.{Field}
 use Rattle.esql_ast.specs.declared.query.CommandKind.TheVariants as command
-use Rattle.esql_expr.specs.declared.lexeme.Lexeme.{Lexeme}
-use Rattle.esql_expr.specs.declared.lexeme.Lexeme.TheVariants.{Word, Sign as Mark}
-use Rattle.esql_expr.specs.declared.machine.Part.{Part}
-use Rattle.esql_expr.specs.Phrases.{Phrase}
+use Rattle.esql_phrases.specs.declared.lexeme.Lexeme.{Lexeme}
+use Rattle.esql_phrases.specs.declared.lexeme.Lexeme.TheVariants.{Word, Sign as Mark}
+use Rattle.esql_phrases.specs.declared.part.Part.{Part}
+use Rattle.esql_phrases.specs.Phrases.{Phrase}
 use Rattle.esql_expr.proofs.Viable.{depth_one}
 use Rattle.esql_ast.specs.declared.query.NameAt.{NameAt}
-use Rattle.esql_parse.specs.declared.state.Body.{Body}
-use Rattle.esql_parse.specs.declared.state.Body.TheVariants as body
-use Rattle.esql_parse.specs.declared.state.Clause.{Clause}
-use Rattle.esql_parse.specs.declared.state.CommandWord.{CommandWord}
-use Rattle.esql_parse.specs.declared.state.CommandWord.TheVariants as begins
-use Rattle.esql_parse.specs.declared.state.Inside.TheVariants.{At}
-use Rattle.esql_parse.specs.declared.state.Point.{Point}
-use Rattle.esql_parse.specs.declared.state.Slot.{Slot}
-use Rattle.esql_parse.specs.Grammar.{Listed, first_item, next_item, field_line, FieldLine, StatsLine, open_line, where_line, no_direction, no_order, key_line, item_line, no_name, no_on, on_name, no_items, with_items, no_groups, by_fields, no_separator, Says, from_says, row_says, where_says, eval_says, keep_says, drop_says, rename_says, sort_says, stats_says, stats_by_says, dissect_says, enrich_says}
-use Rattle.esql_parse.specs.Machine.{line_in, clause_body, expr_body, body_at}
+use Rattle.esql_commands.specs.declared.point.Body.{Body}
+use Rattle.esql_commands.specs.declared.point.Body.TheVariants as body
+use Rattle.esql_commands.specs.declared.point.Clause.{Clause}
+use Rattle.esql_commands.specs.declared.point.CommandWord.{CommandWord}
+use Rattle.esql_commands.specs.declared.point.CommandWord.TheVariants as begins
+use Rattle.esql_commands.specs.declared.point.Inside.TheVariants.{At}
+use Rattle.esql_commands.specs.declared.point.Point.{Point}
+use Rattle.esql_commands.specs.declared.point.Slot.{Slot}
+use Rattle.esql_commands.specs.Grammar.{Listed, first_item, next_item, field_line, FieldLine, StatsLine, open_line, where_line, no_direction, no_order, key_line, item_line, no_name, no_on, on_name, no_items, with_items, no_groups, by_fields, no_separator, Says, from_says, row_says, where_says, eval_says, keep_says, drop_says, rename_says, sort_says, stats_says, stats_by_says, dissect_says, enrich_says}
+use Rattle.esql_commands.specs.Points.{line_in, clause_body, expr_body, body_at}
 use Rattle.esql_parse.proofs.Reached.{name_depth, SoFar, none_yet, so_far, Opens, row_opens, eval_opens, groups_open, only_groups, Before, field_before, aggregate_before, restriction_before, filter_before, key_before, dissect_before, grok_before, keeps, drops, Inner, expr_ended, from_next, from_table, pattern_next, pattern_read, rename_next, rename_before, rename_as, rename_after, key_order, key_nulls, key_whole, limit_wants, expand_wants, stats_wants, dissect_pattern, dissect_separator, dissect_assign, enrich_wants, enrich_policy, enrich_on, enrich_column, enrich_next, enrich_name, enrich_assign, enrich_field, lookup_wants, join_wants, join_table, join_on, whole}
 
 pub listed_as : {A : Type 0} {One : List Lexeme → A → ℕ → Type 0} {v w : List Lexeme} {items : List A} {d e : ℕ} → v ≡ w → d ≡ e → Listed One v items d → Listed One w items e

@@ -6,10 +6,10 @@ use Rattle.esql_ast.specs.declared.expr.Form.{Form}
 use Rattle.esql_ast.specs.declared.expr.Form.TheOpen.{Form-F}
 use Rattle.esql_ast.specs.declared.expr.Form.TheViews.{out-Form, outs-Constant, outs-List, outs-Column, outs-Group, outs-Call, outs-Minus, outs-Not, outs-Binary, outs-Within, outs-Like, outs-IsNull, outs-Cast}
 use Rattle.esql_ast.specs.declared.query.NameAt.{NameAt}
-use Rattle.esql_expr.specs.declared.lexeme.Lexeme.{Lexeme}
-use Rattle.esql_expr.specs.declared.machine.Part.{Part}
-use Rattle.esql_expr.specs.Phrases.{IsName, Phrase, looser, number_line, text_line, true_line, false_line, null_line, list_line, name_line, group_line, empty_line, star_line, call_line, cast_line, minus_line, not_line, binary_line, in_line, like_line, is_line}
-use Rattle.esql_parse.specs.Machine.{column_in, column_name}
+use Rattle.esql_phrases.specs.declared.lexeme.Lexeme.{Lexeme}
+use Rattle.esql_phrases.specs.declared.part.Part.{Part}
+use Rattle.esql_phrases.specs.Phrases.{IsName, Phrase, looser, number_line, text_line, true_line, false_line, null_line, list_line, name_line, group_line, empty_line, star_line, call_line, cast_line, minus_line, not_line, binary_line, in_line, like_line, is_line}
+use Rattle.esql_commands.specs.Points.{column_in, column_name}
 
 -- the lexemes are one name, and an expression of them has the depth of a column
 pub record OneName (w : List Lexeme) (depth : ℕ) (name : NameAt) : Type 0 where

@@ -10,25 +10,26 @@ use Rattle.esql_ast.specs.declared.query.TextAt.{TextAt}
 use Rattle.esql_ast.specs.declared.query.Field.{Field}
 use Rattle.esql_ast.specs.declared.query.StatsField.{StatsField}
 use Rattle.esql_ast.specs.declared.query.CommandKind.TheVariants as command
-use Rattle.esql_expr.specs.declared.lexeme.Lexeme.{Lexeme}
-use Rattle.esql_expr.specs.declared.lexeme.Lexeme.TheVariants.{Plain, Dotted, Quoted, Text, Number, Word, Sign as Mark}
-use Rattle.esql_expr.specs.declared.machine.Part.{Part}
-use Rattle.esql_expr.specs.Phrases.{Phrase}
+use Rattle.esql_phrases.specs.declared.lexeme.Lexeme.{Lexeme}
+use Rattle.esql_phrases.specs.declared.lexeme.Lexeme.TheVariants.{Plain, Dotted, Quoted, Text, Number, Word, Sign as Mark}
+use Rattle.esql_phrases.specs.declared.part.Part.{Part}
+use Rattle.esql_phrases.specs.Phrases.{Phrase}
 use Rattle.esql_expr.specs.Machine as expr
-use Rattle.esql_expr.proofs.Complete.{begins as phrase_begins}
-use Rattle.esql_parse.specs.declared.state.Clause.TheVariants as clause
-use Rattle.esql_parse.specs.declared.state.Slot.TheVariants as slot
-use Rattle.esql_parse.specs.declared.state.Point.TheVariants as point
-use Rattle.esql_parse.specs.declared.state.Inside.{Inside}
-use Rattle.esql_parse.specs.declared.state.Inside.TheVariants.{At}
+use Rattle.esql_phrases.proofs.Begins.{begins as phrase_begins}
+use Rattle.esql_commands.specs.declared.point.Clause.TheVariants as clause
+use Rattle.esql_commands.specs.declared.point.Slot.TheVariants as slot
+use Rattle.esql_commands.specs.declared.point.Point.TheVariants as point
+use Rattle.esql_commands.specs.declared.point.Inside.{Inside}
+use Rattle.esql_commands.specs.declared.point.Inside.TheVariants.{At}
 use Rattle.esql_parse.specs.declared.state.State.{State}
-use Rattle.esql_parse.specs.declared.state.Body.{Body}
-use Rattle.esql_parse.specs.declared.state.Body.TheVariants as body
-use Rattle.esql_parse.specs.declared.state.CommandWord.{CommandWord}
-use Rattle.esql_parse.specs.declared.state.CommandWord.TheVariants as begins
-use Rattle.esql_parse.specs.Words.{is_join, is_append_separator}
-use Rattle.esql_parse.specs.Grammar.{Listed, first_item, next_item, no_name, named, FieldLine, field_line, StatsLine, open_line, where_line, ByFields, no_groups, by_fields, Separator, no_separator, separator, Says, from_says, row_says, where_says, eval_says, keep_says, drop_says, rename_says, sort_says, limit_says, expand_says, stats_says, stats_by_says, dissect_says, grok_says, enrich_says, join_says}
-use Rattle.esql_parse.specs.Machine.{opened, next_field, next_aggregate, next_key, separate, joins, moved, step, walk}
+use Rattle.esql_commands.specs.declared.point.Body.{Body}
+use Rattle.esql_commands.specs.declared.point.Body.TheVariants as body
+use Rattle.esql_commands.specs.declared.point.CommandWord.{CommandWord}
+use Rattle.esql_commands.specs.declared.point.CommandWord.TheVariants as begins
+use Rattle.esql_commands.specs.Words.{is_join, is_append_separator}
+use Rattle.esql_commands.specs.Grammar.{Listed, first_item, next_item, no_name, named, FieldLine, field_line, StatsLine, open_line, where_line, ByFields, no_groups, by_fields, Separator, no_separator, separator, Says, from_says, row_says, where_says, eval_says, keep_says, drop_says, rename_says, sort_says, limit_says, expand_says, stats_says, stats_by_says, dissect_says, grok_says, enrich_says, join_says}
+use Rattle.esql_commands.specs.Points.{opened, next_field, next_aggregate, next_key, separate, joins}
+use Rattle.esql_parse.specs.Machine.{moved, step, walk}
 use Rattle.esql_parse.proofs.Steps.{stand, Moves, Turns, moves_none, moves_first, moves_on, moves_past, moves_expr}
 use Rattle.esql_parse.proofs.Fields.{Item, reads_fields, reads_stats, reads_keys}
 use Rattle.esql_parse.proofs.Names.{name_turns, next_table, next_pattern, next_pair, reads_tables, reads_patterns, reads_pairs, Saying, reads_policy}

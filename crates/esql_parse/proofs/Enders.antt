@@ -2,16 +2,16 @@
 use Rattle.std.proofs.Common.{◌≡◌, ℕ, List, [], ◌∷◌}
 use Rattle.esql_types.specs.declared.places.Span.{Span}
 use Rattle.esql_lex.specs.declared.token.Sign.TheVariants as sign
-use Rattle.esql_expr.specs.declared.lexeme.Lexeme.{Lexeme}
-use Rattle.esql_expr.specs.declared.lexeme.Lexeme.TheVariants.{Sign as Mark, End}
-use Rattle.esql_expr.specs.declared.machine.Part.{Part}
+use Rattle.esql_phrases.specs.declared.lexeme.Lexeme.{Lexeme}
+use Rattle.esql_phrases.specs.declared.lexeme.Lexeme.TheVariants.{Sign as Mark, End}
+use Rattle.esql_phrases.specs.declared.part.Part.{Part}
 use Rattle.esql_expr.specs.declared.machine.Frame.{Frame}
 use Rattle.esql_expr.specs.declared.machine.Frame.TheVariants.{Binary, Group, Minus, Not, Call, Within}
 use Rattle.esql_expr.specs.declared.machine.Top.{Top}
 use Rattle.esql_expr.specs.declared.machine.Top.TheVariants.{Have, Named}
 use Rattle.esql_expr.specs.declared.machine.Reader.{Reader}
 use Rattle.esql_expr.specs.declared.machine.Stepped.TheVariants.{Goes}
-use Rattle.esql_expr.specs.Parts.{column_part, minus_part, not_part, binary_part}
+use Rattle.esql_phrases.specs.Parts.{column_part, minus_part, not_part, binary_part}
 use Rattle.esql_expr.specs.Machine.{feed, step_at, step}
 
 pub data Ender : Lexeme → Type 0 where

@@ -9,25 +9,26 @@ use Rattle.esql_ast.specs.declared.query.Field.{Field}
 use Rattle.esql_ast.specs.declared.query.StatsField.{StatsField}
 use Rattle.esql_ast.specs.declared.query.SortKey.{SortKey}
 use Rattle.esql_ast.specs.declared.query.CommandKind.TheVariants as command
-use Rattle.esql_expr.specs.declared.lexeme.Lexeme.{Lexeme}
-use Rattle.esql_expr.specs.declared.lexeme.Lexeme.TheVariants.{Plain, Word, Sign as Mark}
-use Rattle.esql_expr.specs.declared.machine.Part.{Part}
-use Rattle.esql_expr.specs.Parts.{column_part}
-use Rattle.esql_expr.specs.Phrases.{IsName, Phrase, looser, number_line, text_line, true_line, false_line, null_line, list_line, name_line, group_line, empty_line, star_line, call_line, cast_line, minus_line, not_line, binary_line, in_line, like_line, is_line}
+use Rattle.esql_phrases.specs.declared.lexeme.Lexeme.{Lexeme}
+use Rattle.esql_phrases.specs.declared.lexeme.Lexeme.TheVariants.{Plain, Word, Sign as Mark}
+use Rattle.esql_phrases.specs.declared.part.Part.{Part}
+use Rattle.esql_phrases.specs.Parts.{column_part}
+use Rattle.esql_phrases.specs.Phrases.{IsName, Phrase, looser, number_line, text_line, true_line, false_line, null_line, list_line, name_line, group_line, empty_line, star_line, call_line, cast_line, minus_line, not_line, binary_line, in_line, like_line, is_line}
 use Rattle.esql_expr.specs.Machine as expr
-use Rattle.esql_parse.specs.declared.state.Clause.{Clause}
-use Rattle.esql_parse.specs.declared.state.Slot.{Slot}
-use Rattle.esql_parse.specs.declared.state.Slot.TheVariants as slot
-use Rattle.esql_parse.specs.declared.state.Point.{Point}
-use Rattle.esql_parse.specs.declared.state.Point.TheVariants as point
-use Rattle.esql_parse.specs.declared.state.Inside.{Inside}
-use Rattle.esql_parse.specs.declared.state.Inside.TheVariants.{Open, At}
-use Rattle.esql_parse.specs.declared.state.Body.{Body}
-use Rattle.esql_parse.specs.declared.state.Body.TheVariants as body
-use Rattle.esql_parse.specs.declared.state.CommandWord.TheVariants as begins
-use Rattle.esql_parse.specs.Words.{command_word}
-use Rattle.esql_parse.specs.Grammar.{Listed, first_item, next_item, field_of, no_name, named, FieldLine, field_line, StatsLine, open_line, where_line, no_direction, ascending, descending, no_order, nulls_first, nulls_last, KeyLine, key_line}
-use Rattle.esql_parse.specs.Machine.{column_in, column_name, next_field, next_aggregate, next_key, assign_field, assign_aggregate, open_field, groups_after, restrict, clause_body, body_at, moved}
+use Rattle.esql_commands.specs.declared.point.Clause.{Clause}
+use Rattle.esql_commands.specs.declared.point.Slot.{Slot}
+use Rattle.esql_commands.specs.declared.point.Slot.TheVariants as slot
+use Rattle.esql_commands.specs.declared.point.Point.{Point}
+use Rattle.esql_commands.specs.declared.point.Point.TheVariants as point
+use Rattle.esql_commands.specs.declared.point.Inside.{Inside}
+use Rattle.esql_commands.specs.declared.point.Inside.TheVariants.{Open, At}
+use Rattle.esql_commands.specs.declared.point.Body.{Body}
+use Rattle.esql_commands.specs.declared.point.Body.TheVariants as body
+use Rattle.esql_commands.specs.declared.point.CommandWord.TheVariants as begins
+use Rattle.esql_commands.specs.Words.{command_word}
+use Rattle.esql_commands.specs.Grammar.{Listed, first_item, next_item, field_of, no_name, named, FieldLine, field_line, StatsLine, open_line, where_line, no_direction, ascending, descending, no_order, nulls_first, nulls_last, KeyLine, key_line}
+use Rattle.esql_commands.specs.Points.{column_in, column_name, next_field, next_aggregate, next_key, assign_field, assign_aggregate, open_field, groups_after, restrict, clause_body, body_at}
+use Rattle.esql_parse.specs.Machine.{moved}
 use Rattle.esql_parse.proofs.Steps.{stand, Moves, Turns, moves_none, moves_first, moves_on, moves_past, moves_expr}
 
 -- the lexemes lead from a place to a point of which something holds

@@ -20,18 +20,19 @@ use Rattle.esql_ast.specs.Laws.{as_it_was}
 use Rattle.esql_ast.specs.Nodes.{nodes_of_expr, nodes_of_field, nodes_of_stats, nodes_of_key, nodes_of_kind, nodes_of_command, nodes_of_source}
 use Rattle.esql_ast.specs.Numbering.{numbered_query}
 use Rattle.esql_ast.proofs.KeepsFit as numbering
-use Rattle.esql_expr.specs.declared.lexeme.Lexeme.{Lexeme}
-use Rattle.esql_expr.specs.declared.lexeme.Lexeme.TheVariants.{Plain, Text, Word, Sign as Mark, End}
-use Rattle.esql_expr.specs.Ends.{span_at, last_to}
-use Rattle.esql_expr.specs.Parts.{join, span_of}
-use Rattle.esql_expr.specs.Stands.{Stands}
-use Rattle.esql_expr.proofs.Stands.{front, back, first_fits, run_fits, same_ends_fit, lexemes_stand}
-use Rattle.esql_expr.proofs.Fits.{NodesFit, no_nodes, node_then, nodes_then, flat_fits, phrase_span_fits, phrase_fits}
-use Rattle.esql_parse.specs.declared.state.Body.{Body}
-use Rattle.esql_parse.specs.declared.state.Body.TheVariants as body
-use Rattle.esql_parse.specs.declared.state.CommandWord.{CommandWord}
+use Rattle.esql_phrases.specs.declared.lexeme.Lexeme.{Lexeme}
+use Rattle.esql_phrases.specs.declared.lexeme.Lexeme.TheVariants.{Plain, Text, Word, Sign as Mark, End}
+use Rattle.esql_phrases.specs.Ends.{span_at, last_to}
+use Rattle.esql_phrases.specs.Parts.{join, span_of}
+use Rattle.esql_phrases.specs.Stands.{Stands}
+use Rattle.esql_phrases.proofs.Stands.{front, back, first_fits, run_fits, same_ends_fit, lexemes_stand}
+use Rattle.esql_phrases.proofs.Fits.{NodesFit, no_nodes, node_then, nodes_then, flat_fits, phrase_span_fits, phrase_fits}
+use Rattle.esql_commands.specs.declared.point.Body.{Body}
+use Rattle.esql_commands.specs.declared.point.Body.TheVariants as body
+use Rattle.esql_commands.specs.declared.point.CommandWord.{CommandWord}
 use Rattle.esql_parse.specs.declared.state.Written.{Written}
-use Rattle.esql_parse.specs.Grammar.{Listed, first_item, next_item, FieldLine, field_line, StatsLine, open_line, where_line, KeyLine, key_line, TableLine, table_line, ByFields, no_groups, by_fields, Says, from_says, row_says, where_says, eval_says, keep_says, drop_says, rename_says, sort_says, limit_says, expand_says, stats_says, stats_by_says, dissect_says, grok_says, enrich_says, join_says, last_span, CommandLine, command_line, node_zero, begin_with, go_on_with, Piped, source_line, pipe_line, SpellsQuery, query_line}
+use Rattle.esql_commands.specs.Grammar.{Listed, first_item, next_item, FieldLine, field_line, StatsLine, open_line, where_line, KeyLine, key_line, TableLine, table_line, ByFields, no_groups, by_fields, Says, from_says, row_says, where_says, eval_says, keep_says, drop_says, rename_says, sort_says, limit_says, expand_says, stats_says, stats_by_says, dissect_says, grok_says, enrich_says, join_says, last_span, CommandLine, command_line}
+use Rattle.esql_parse.specs.Grammar.{node_zero, begin_with, go_on_with, Piped, source_line, pipe_line, SpellsQuery, query_line}
 use Rattle.esql_parse.specs.Spells.{lexemes_of}
 
 -- what each item has whose lexemes stand in the text, all items of a list have

@@ -1,26 +1,27 @@
 -- The machine reads exactly the fronts of queries, within limits too.
 use Rattle.std.proofs.Common.{◌≡◌, ℕ, ◌≤◌, max, List, [], ◌∷◌, ◌++◌, length, Option, Some, None, refl, sym, ◌∙◌, ap, subst, arith}
 use Rattle.esql_types.specs.declared.places.Span.{Span}
-use Rattle.esql_expr.specs.declared.lexeme.Lexeme.{Lexeme}
-use Rattle.esql_expr.specs.declared.lexeme.Lexeme.TheVariants.{End}
+use Rattle.esql_phrases.specs.declared.lexeme.Lexeme.{Lexeme}
+use Rattle.esql_phrases.specs.declared.lexeme.Lexeme.TheVariants.{End}
 use Rattle.esql_expr.specs.declared.machine.Reader.{Reader}
 use Rattle.esql_expr.specs.declared.machine.Stepped.{Stepped}
 use Rattle.esql_expr.specs.declared.machine.Stepped.TheVariants.{Goes, Ends, Stuck}
 use Rattle.esql_expr.specs.Machine as expr
 use Rattle.esql_expr.proofs.Sound.{and_then_some}
-use Rattle.esql_parse.specs.declared.state.Body.{Body}
-use Rattle.esql_parse.specs.declared.state.Inside.TheVariants.{Open, At, Done}
-use Rattle.esql_parse.specs.declared.state.Point.TheVariants as point
-use Rattle.esql_parse.specs.declared.state.Slot.{Slot}
+use Rattle.esql_commands.specs.declared.point.Body.{Body}
+use Rattle.esql_commands.specs.declared.point.Inside.TheVariants.{Open, At, Done}
+use Rattle.esql_commands.specs.declared.point.Point.TheVariants as point
+use Rattle.esql_commands.specs.declared.point.Slot.{Slot}
 use Rattle.esql_parse.specs.declared.state.State.{State}
 use Rattle.esql_parse.specs.declared.state.Written.{Written}
-use Rattle.esql_parse.specs.Machine.{body_at, ended_with, ended, step_point, step_expr, step_inside, step, need_inside, need, piped, pipes, start, walk}
+use Rattle.esql_commands.specs.Points.{body_at}
+use Rattle.esql_parse.specs.Machine.{ended_with, ended, step_point, step_expr, step_inside, step, need_inside, need, piped, pipes, start, walk}
 use Rattle.esql_parse.specs.Grammar.{with_body}
 use Rattle.esql_parse.specs.Refusals.{Front, FrontWithin}
 use Rattle.esql_parse.proofs.Accepts.{accepts}
 use Rattle.esql_parse.proofs.Enders.{end_ends, no_expression}
 use Rattle.esql_parse.proofs.Grows.{ends_same, walk_grows}
-use Rattle.esql_parse.specs.declared.state.CommandWord.{CommandWord}
+use Rattle.esql_commands.specs.declared.point.CommandWord.{CommandWord}
 use Rattle.esql_parse.proofs.Reached.{Inner, Read, to_begin, in_command, at_end}
 use Rattle.esql_parse.proofs.Sound.{walked}
 use Rattle.esql_parse.proofs.Steps.{walk-append}

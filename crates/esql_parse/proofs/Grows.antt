@@ -2,8 +2,8 @@
 use Rattle.std.proofs.Common.{◌≡◌, ℕ, suc, ◌+◌, ◌≤◌, max, Bool, true, false, List, [], ◌∷◌, ◌++◌, length, Option, Some, None, refl, sym, ◌∙◌, ap, subst, length-append, add-one, arith}
 use Rattle.esql_types.specs.declared.places.Span.{Span}
 use Rattle.esql_lex.specs.declared.token.Sign.TheVariants as sign
-use Rattle.esql_expr.specs.declared.lexeme.Lexeme.{Lexeme}
-use Rattle.esql_expr.specs.declared.lexeme.Lexeme.TheVariants.{Word, Sign as Mark, End}
+use Rattle.esql_phrases.specs.declared.lexeme.Lexeme.{Lexeme}
+use Rattle.esql_phrases.specs.declared.lexeme.Lexeme.TheVariants.{Word, Sign as Mark, End}
 use Rattle.esql_lex.specs.declared.token.Reserved.TheVariants as word
 use Rattle.esql_expr.specs.declared.machine.Reader.{Reader}
 use Rattle.esql_expr.specs.declared.machine.Stepped.{Stepped}
@@ -12,26 +12,27 @@ use Rattle.esql_expr.specs.Machine as expr
 use Rattle.esql_expr.proofs.Fronts.{need_grows, ends_spelled}
 use Rattle.esql_expr.proofs.Grows.{ends_needs}
 use Rattle.esql_expr.proofs.Sound.{and_then_some}
-use Rattle.esql_parse.specs.declared.state.Body.{Body}
-use Rattle.esql_parse.specs.declared.state.Body.TheVariants as body
-use Rattle.esql_parse.specs.declared.state.Inside.{Inside}
-use Rattle.esql_parse.specs.declared.state.Inside.TheVariants.{Open, At, Done}
-use Rattle.esql_parse.specs.declared.state.Point.{Point}
-use Rattle.esql_parse.specs.declared.state.Point.TheVariants as point
-use Rattle.esql_parse.specs.declared.state.Slot.{Slot}
-use Rattle.esql_parse.specs.declared.state.Slot.TheVariants as slot
+use Rattle.esql_commands.specs.declared.point.Body.{Body}
+use Rattle.esql_commands.specs.declared.point.Body.TheVariants as body
+use Rattle.esql_commands.specs.declared.point.Inside.{Inside}
+use Rattle.esql_commands.specs.declared.point.Inside.TheVariants.{Open, At, Done}
+use Rattle.esql_commands.specs.declared.point.Point.{Point}
+use Rattle.esql_commands.specs.declared.point.Point.TheVariants as point
+use Rattle.esql_commands.specs.declared.point.Slot.{Slot}
+use Rattle.esql_commands.specs.declared.point.Slot.TheVariants as slot
 use Rattle.esql_parse.specs.declared.state.State.{State}
 use Rattle.esql_parse.specs.declared.state.Written.{Written}
 use Rattle.esql_parse.specs.Grammar.{with_body}
-use Rattle.esql_parse.specs.Machine.{line_in, groups_after, going_on, after_stats, after_point, body_at, word_after, moved, ended_with, ended, step_point, step_expr, step_inside, step, need_at, need_inside, need, piped, pipes, start, walk}
+use Rattle.esql_commands.specs.Points.{line_in, groups_after, going_on, after_stats, after_point, body_at}
+use Rattle.esql_parse.specs.Machine.{word_after, moved, ended_with, ended, step_point, step_expr, step_inside, step, need_at, need_inside, need, piped, pipes, start, walk}
 use Rattle.esql_parse.specs.Refusals.{bar_at, bars}
 use Rattle.esql_parse.proofs.Sound.{step_read}
-use Rattle.esql_parse.specs.declared.state.CommandWord.{CommandWord}
+use Rattle.esql_commands.specs.declared.point.CommandWord.{CommandWord}
 use Rattle.esql_parse.specs.Grammar.{SpellsQuery, query_line}
 use Rattle.esql_parse.proofs.Reached.{first_command, Inner, in_slot, Read, to_begin, in_command, at_end}
-use Rattle.esql_expr.specs.Ends.{span_at}
-use Rattle.esql_expr.specs.Parts.{join}
-use Rattle.esql_expr.specs.declared.machine.Part.{Part}
+use Rattle.esql_phrases.specs.Ends.{span_at}
+use Rattle.esql_phrases.specs.Parts.{join}
+use Rattle.esql_phrases.specs.declared.part.Part.{Part}
 use Rattle.esql_parse.proofs.Enders.{bar_ends, no_expression}
 use Rattle.esql_parse.proofs.Sound.{line_low}
 use Rattle.esql_parse.proofs.Viable.{opened_count, opened_pipes}

@@ -7,21 +7,21 @@ use Rattle.esql_ast.specs.declared.query.NameAt.{NameAt}
 use Rattle.esql_ast.specs.declared.query.Field.{Field}
 use Rattle.esql_ast.specs.declared.query.StatsField.{StatsField}
 use Rattle.esql_ast.specs.declared.query.SortKey.{SortKey}
-use Rattle.esql_expr.specs.declared.lexeme.Lexeme.{Lexeme}
-use Rattle.esql_expr.specs.declared.lexeme.Lexeme.TheVariants.{Plain, Dotted, Quoted, Text, Word, Sign as Mark}
-use Rattle.esql_expr.specs.declared.machine.Part.{Part}
-use Rattle.esql_expr.specs.Phrases.{IsName, plain_name, dotted_name, quoted_name, Phrase}
+use Rattle.esql_phrases.specs.declared.lexeme.Lexeme.{Lexeme}
+use Rattle.esql_phrases.specs.declared.lexeme.Lexeme.TheVariants.{Plain, Dotted, Quoted, Text, Word, Sign as Mark}
+use Rattle.esql_phrases.specs.declared.part.Part.{Part}
+use Rattle.esql_phrases.specs.Phrases.{IsName, plain_name, dotted_name, quoted_name, Phrase}
 use Rattle.esql_expr.proofs.Viable.{depth_one}
-use Rattle.esql_parse.specs.declared.state.Clause.{Clause}
-use Rattle.esql_parse.specs.declared.state.Clause.TheVariants as clause
-use Rattle.esql_parse.specs.declared.state.CommandWord.{CommandWord}
-use Rattle.esql_parse.specs.declared.state.CommandWord.TheVariants as begins
-use Rattle.esql_parse.specs.declared.state.Inside.{Inside}
-use Rattle.esql_parse.specs.declared.state.Slot.{Slot}
-use Rattle.esql_parse.specs.declared.state.Slot.TheVariants as slot
-use Rattle.esql_parse.specs.Grammar.{Listed, FieldName, no_name, named, FieldLine, field_line, StatsLine, open_line, where_line, no_direction, ascending, descending, no_order, KeyLine, key_line, grok_says}
-use Rattle.esql_parse.specs.Machine.{line_in, opened, name_in, on_name as where_name, column_name, assign_field, after_field, restrict, assign_aggregate, after_aggregate, after_restriction, after_key, after_dissect, after_grok, after_expr}
-use Rattle.esql_parse.specs.Words.{command_word}
+use Rattle.esql_commands.specs.declared.point.Clause.{Clause}
+use Rattle.esql_commands.specs.declared.point.Clause.TheVariants as clause
+use Rattle.esql_commands.specs.declared.point.CommandWord.{CommandWord}
+use Rattle.esql_commands.specs.declared.point.CommandWord.TheVariants as begins
+use Rattle.esql_commands.specs.declared.point.Inside.{Inside}
+use Rattle.esql_commands.specs.declared.point.Slot.{Slot}
+use Rattle.esql_commands.specs.declared.point.Slot.TheVariants as slot
+use Rattle.esql_commands.specs.Grammar.{Listed, FieldName, no_name, named, FieldLine, field_line, StatsLine, open_line, where_line, no_direction, ascending, descending, no_order, KeyLine, key_line, grok_says}
+use Rattle.esql_commands.specs.Points.{line_in, opened, name_in, on_name as where_name, column_name, assign_field, after_field, restrict, assign_aggregate, after_aggregate, after_restriction, after_key, after_dissect, after_grok, after_expr}
+use Rattle.esql_commands.specs.Words.{command_word}
 use Rattle.esql_parse.proofs.Columns.{column_of}
 use Rattle.esql_parse.proofs.Reached.{name_depth, SoFar, none_yet, so_far, Opens, groups_open, Before, field_before, aggregate_before, restriction_before, filter_before, key_before, dissect_before, grok_before, Inner, in_slot, key_order, key_nulls, dissect_pattern, whole}
 use Rattle.esql_parse.proofs.Bodies.{with_one, name_depth_low}

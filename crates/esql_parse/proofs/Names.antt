@@ -5,17 +5,17 @@ use Rattle.esql_ast.specs.declared.query.NamePattern.{NamePattern}
 use Rattle.esql_ast.specs.declared.query.RenamePair.{RenamePair}
 use Rattle.esql_ast.specs.declared.query.EnrichItem.{EnrichItem}
 use Rattle.esql_ast.specs.declared.query.CommandKind.TheVariants as command
-use Rattle.esql_expr.specs.declared.lexeme.Lexeme.{Lexeme}
-use Rattle.esql_expr.specs.declared.lexeme.Lexeme.TheVariants.{Plain, Dotted, Quoted}
-use Rattle.esql_expr.specs.Phrases.{IsName, plain_name, dotted_name, quoted_name}
-use Rattle.esql_parse.specs.declared.state.Point.{Point}
-use Rattle.esql_parse.specs.declared.state.Point.TheVariants as point
-use Rattle.esql_parse.specs.declared.state.Inside.{Inside}
-use Rattle.esql_parse.specs.declared.state.Inside.TheVariants.{At}
-use Rattle.esql_parse.specs.declared.state.Body.{Body}
-use Rattle.esql_parse.specs.declared.state.Body.TheVariants as body
-use Rattle.esql_parse.specs.Grammar.{Listed, first_item, next_item, no_name, named, TableLine, table_line, PatternLine, pattern_line, full_name_line, PairLine, pair_line, ItemLine, item_line, OnName, no_on, on_name, WithItems, no_items, with_items}
-use Rattle.esql_parse.specs.Machine.{patterns_kind, with_item, body_at}
+use Rattle.esql_phrases.specs.declared.lexeme.Lexeme.{Lexeme}
+use Rattle.esql_phrases.specs.declared.lexeme.Lexeme.TheVariants.{Plain, Dotted, Quoted}
+use Rattle.esql_phrases.specs.Phrases.{IsName, plain_name, dotted_name, quoted_name}
+use Rattle.esql_commands.specs.declared.point.Point.{Point}
+use Rattle.esql_commands.specs.declared.point.Point.TheVariants as point
+use Rattle.esql_commands.specs.declared.point.Inside.{Inside}
+use Rattle.esql_commands.specs.declared.point.Inside.TheVariants.{At}
+use Rattle.esql_commands.specs.declared.point.Body.{Body}
+use Rattle.esql_commands.specs.declared.point.Body.TheVariants as body
+use Rattle.esql_commands.specs.Grammar.{Listed, first_item, next_item, no_name, named, TableLine, table_line, PatternLine, pattern_line, full_name_line, PairLine, pair_line, ItemLine, item_line, OnName, no_on, on_name, WithItems, no_items, with_items}
+use Rattle.esql_commands.specs.Points.{patterns_kind, with_item, body_at}
 use Rattle.esql_parse.proofs.Steps.{Turns, moves_none, moves_first}
 use Rattle.esql_parse.proofs.Fields.{Item, Rests, listed}
 

@@ -8,11 +8,12 @@ use Rattle.esql_ast.specs.declared.query.Command.{Command}
 use Rattle.esql_ast.specs.declared.query.SourceCommand.{SourceCommand}
 use Rattle.esql_ast.specs.Fits.{QueryFits}
 use Rattle.esql_ast.specs.Numbering.{numbered_query}
-use Rattle.esql_expr.specs.Lexemes.{lexeme_of}
+use Rattle.esql_phrases.specs.Lexemes.{lexeme_of}
 use Rattle.esql_parse.specs.declared.error.ParseError.{ParseError}
 use Rattle.esql_parse.specs.declared.error.ParseError.TheVariants.{Unexpected, TooDeep, TooMany, Memory}
 use Rattle.esql_parse.specs.Refusals.{Breaks}
-use Rattle.esql_parse.specs.Spells.{Spells, Refuses, lexemes_of, IsWantOfMemory, IsQueryOrMemory, IsRefusalOrMemory, IsNumbered, NamesToken}
+use Rattle.esql_ast.specs.Laws.{IsNumbered}
+use Rattle.esql_parse.specs.Spells.{Spells, Refuses, lexemes_of, IsWantOfMemory, IsQueryOrMemory, IsRefusalOrMemory, NamesToken}
 use Rattle.esql_parse.proofs.Accepts.{one_query}
 use Rattle.esql_parse.proofs.Refusals.{one_refusal, spelled_not_refused}
 use Rattle.esql_parse.proofs.Fits.{spelled_fits}

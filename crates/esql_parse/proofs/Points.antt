@@ -11,23 +11,23 @@ use Rattle.esql_ast.specs.declared.query.RenamePair.{RenamePair}
 use Rattle.esql_ast.specs.declared.query.SortKey.{SortKey}
 use Rattle.esql_ast.specs.declared.query.EnrichItem.{EnrichItem}
 use Rattle.esql_ast.specs.declared.query.CommandKind.TheVariants as command
-use Rattle.esql_expr.specs.declared.lexeme.Lexeme.{Lexeme}
-use Rattle.esql_expr.specs.declared.lexeme.Lexeme.TheVariants.{Plain, Quoted, Pattern as Wild, Source as Table, Text, Number, Word, Sign as Mark}
-use Rattle.esql_expr.specs.declared.machine.Part.{Part}
+use Rattle.esql_phrases.specs.declared.lexeme.Lexeme.{Lexeme}
+use Rattle.esql_phrases.specs.declared.lexeme.Lexeme.TheVariants.{Plain, Quoted, Pattern as Wild, Source as Table, Text, Number, Word, Sign as Mark}
+use Rattle.esql_phrases.specs.declared.part.Part.{Part}
 use Rattle.esql_expr.specs.declared.machine.Stepped.{Stepped}
 use Rattle.esql_expr.specs.declared.machine.Stepped.TheVariants.{Goes, Ends, Stuck}
 use Rattle.esql_expr.specs.Machine as expr
-use Rattle.esql_expr.specs.Phrases.{IsName, Phrase}
-use Rattle.esql_parse.specs.declared.state.CommandWord.{CommandWord}
-use Rattle.esql_parse.specs.declared.state.CommandWord.TheVariants as begins
-use Rattle.esql_parse.specs.declared.state.Inside.{Inside}
-use Rattle.esql_parse.specs.declared.state.Inside.TheVariants.{At}
-use Rattle.esql_parse.specs.declared.state.Point.{Point}
-use Rattle.esql_parse.specs.declared.state.Point.TheVariants as point
-use Rattle.esql_parse.specs.declared.state.Slot.TheVariants as slot
-use Rattle.esql_parse.specs.Grammar.{Listed, no_name, named, Direction, nulls_first, nulls_last, no_order, KeyLine, key_line, TableLine, table_line, PatternLine, pattern_line, full_name_line, PairLine, pair_line, ItemLine, item_line, OnName, no_on, on_name, separator, limit_says, expand_says, dissect_says, join_says}
-use Rattle.esql_parse.specs.Machine.{renamed, with_item, after_from, after_table, after_keep, after_pattern, after_before, after_pair, after_order, after_nulls, after_whole_key, after_limit, going_on, after_stats, separate, after_dissect_pattern, after_separator, after_separator_assign, after_enrich, after_policy, after_column, after_item_name, after_item, joins, after_lookup, after_join, after_join_table, after_point}
-use Rattle.esql_parse.specs.Words.{is_join, is_append_separator}
+use Rattle.esql_phrases.specs.Phrases.{IsName, Phrase}
+use Rattle.esql_commands.specs.declared.point.CommandWord.{CommandWord}
+use Rattle.esql_commands.specs.declared.point.CommandWord.TheVariants as begins
+use Rattle.esql_commands.specs.declared.point.Inside.{Inside}
+use Rattle.esql_commands.specs.declared.point.Inside.TheVariants.{At}
+use Rattle.esql_commands.specs.declared.point.Point.{Point}
+use Rattle.esql_commands.specs.declared.point.Point.TheVariants as point
+use Rattle.esql_commands.specs.declared.point.Slot.TheVariants as slot
+use Rattle.esql_commands.specs.Grammar.{Listed, no_name, named, Direction, nulls_first, nulls_last, no_order, KeyLine, key_line, TableLine, table_line, PatternLine, pattern_line, full_name_line, PairLine, pair_line, ItemLine, item_line, OnName, no_on, on_name, separator, limit_says, expand_says, dissect_says, join_says}
+use Rattle.esql_commands.specs.Points.{renamed, with_item, after_from, after_table, after_keep, after_pattern, after_before, after_pair, after_order, after_nulls, after_whole_key, after_limit, going_on, after_stats, separate, after_dissect_pattern, after_separator, after_separator_assign, after_enrich, after_policy, after_column, after_item_name, after_item, joins, after_lookup, after_join, after_join_table, after_point}
+use Rattle.esql_commands.specs.Words.{is_join, is_append_separator}
 use Rattle.esql_parse.proofs.Reached.{SoFar, none_yet, so_far, only_groups, field_before, aggregate_before, key_before, PatternWord, Inner, in_slot, expr_ended, from_next, from_table, pattern_next, pattern_read, rename_next, rename_before, rename_as, rename_after, key_order, key_nulls, key_whole, limit_wants, expand_wants, stats_wants, dissect_pattern, dissect_separator, dissect_assign, enrich_wants, enrich_policy, enrich_on, enrich_column, enrich_next, enrich_name, enrich_assign, enrich_field, lookup_wants, join_wants, join_table, join_on, whole}
 use Rattle.esql_parse.proofs.Bodies.{with_one}
 use Rattle.esql_parse.proofs.Moves.{inner_as, to, slot_opens, name_of, expr_goes}

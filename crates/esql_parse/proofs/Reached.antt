@@ -12,27 +12,28 @@ use Rattle.esql_ast.specs.declared.query.RenamePair.{RenamePair}
 use Rattle.esql_ast.specs.declared.query.SortKey.{SortKey}
 use Rattle.esql_ast.specs.declared.query.EnrichItem.{EnrichItem}
 use Rattle.esql_ast.specs.declared.query.CommandKind.{CommandKind}
-use Rattle.esql_expr.specs.declared.lexeme.Lexeme.{Lexeme}
-use Rattle.esql_expr.specs.declared.lexeme.Lexeme.TheVariants.{Plain, Source, Text, Word, Sign as Mark}
-use Rattle.esql_expr.specs.declared.machine.Part.{Part}
+use Rattle.esql_phrases.specs.declared.lexeme.Lexeme.{Lexeme}
+use Rattle.esql_phrases.specs.declared.lexeme.Lexeme.TheVariants.{Plain, Source, Text, Word, Sign as Mark}
+use Rattle.esql_phrases.specs.declared.part.Part.{Part}
 use Rattle.esql_expr.specs.declared.machine.Reader.{Reader}
 use Rattle.esql_expr.specs.Machine as expr
-use Rattle.esql_expr.specs.Phrases.{IsName, Phrase}
-use Rattle.esql_parse.specs.declared.state.Body.TheVariants as body
-use Rattle.esql_parse.specs.declared.state.Clause.{Clause}
-use Rattle.esql_parse.specs.declared.state.Clause.TheVariants as clause
-use Rattle.esql_parse.specs.declared.state.CommandWord.{CommandWord}
-use Rattle.esql_parse.specs.declared.state.CommandWord.TheVariants as begins
-use Rattle.esql_parse.specs.declared.state.Inside.{Inside}
-use Rattle.esql_parse.specs.declared.state.Inside.TheVariants.{Open, At, Done}
-use Rattle.esql_parse.specs.declared.state.Point.TheVariants as point
-use Rattle.esql_parse.specs.declared.state.Slot.{Slot}
-use Rattle.esql_parse.specs.declared.state.Slot.TheVariants as slot
+use Rattle.esql_phrases.specs.Phrases.{IsName, Phrase}
+use Rattle.esql_commands.specs.declared.point.Body.TheVariants as body
+use Rattle.esql_commands.specs.declared.point.Clause.{Clause}
+use Rattle.esql_commands.specs.declared.point.Clause.TheVariants as clause
+use Rattle.esql_commands.specs.declared.point.CommandWord.{CommandWord}
+use Rattle.esql_commands.specs.declared.point.CommandWord.TheVariants as begins
+use Rattle.esql_commands.specs.declared.point.Inside.{Inside}
+use Rattle.esql_commands.specs.declared.point.Inside.TheVariants.{Open, At, Done}
+use Rattle.esql_commands.specs.declared.point.Point.TheVariants as point
+use Rattle.esql_commands.specs.declared.point.Slot.{Slot}
+use Rattle.esql_commands.specs.declared.point.Slot.TheVariants as slot
 use Rattle.esql_parse.specs.declared.state.State.{State}
 use Rattle.esql_parse.specs.declared.state.Written.{Written}
-use Rattle.esql_parse.specs.Grammar.{Listed, FieldName, FieldLine, StatsLine, Direction, KeyLine, TableLine, PatternLine, PairLine, ItemLine, OnName, Says, Piped, SpellsQuery, last_span}
-use Rattle.esql_parse.specs.Machine.{line_in}
-use Rattle.esql_parse.specs.Words.{command_word, is_join, is_append_separator}
+use Rattle.esql_commands.specs.Grammar.{Listed, FieldName, FieldLine, StatsLine, Direction, KeyLine, TableLine, PatternLine, PairLine, ItemLine, OnName, Says, last_span}
+use Rattle.esql_parse.specs.Grammar.{Piped, SpellsQuery}
+use Rattle.esql_commands.specs.Points.{line_in}
+use Rattle.esql_commands.specs.Words.{command_word, is_join, is_append_separator}
 
 -- the items so far, each with its comma
 pub data SoFar {A : Type 0} (One : List Lexeme → A → ℕ → Type 0) : List Lexeme → List A → ℕ → Type 0 where

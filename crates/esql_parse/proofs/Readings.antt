@@ -8,14 +8,14 @@ use Rattle.esql_lex.specs.declared.token.TokenKind.{TokenKind}
 use Rattle.esql_lex.specs.declared.token.TokenKind.TheVariants as kind
 use Rattle.esql_lex.specs.Tokens.{slice_of, EndsOnce}
 use Rattle.esql_ast.specs.Numbering.{size_of_query}
-use Rattle.esql_expr.specs.declared.lexeme.Lexeme.{Lexeme}
-use Rattle.esql_expr.specs.declared.lexeme.Lexeme.TheVariants.{End}
-use Rattle.esql_expr.specs.Lexemes.{lexeme_at, lexeme_of}
+use Rattle.esql_phrases.specs.declared.lexeme.Lexeme.{Lexeme}
+use Rattle.esql_phrases.specs.declared.lexeme.Lexeme.TheVariants.{End}
+use Rattle.esql_phrases.specs.Lexemes.{lexeme_at, lexeme_of}
 use Rattle.esql_parse.specs.declared.error.ParseError.{ParseError}
 use Rattle.esql_parse.specs.declared.error.ParseError.TheVariants.{Unexpected, TooDeep, TooMany, Memory}
 use Rattle.esql_parse.specs.declared.state.Written.{Written}
 use Rattle.esql_parse.specs.declared.state.State.{State}
-use Rattle.esql_parse.specs.declared.state.Inside.TheVariants.{Done}
+use Rattle.esql_commands.specs.declared.point.Inside.TheVariants.{Done}
 use Rattle.esql_parse.specs.Grammar.{SpellsQuery}
 use Rattle.esql_parse.specs.Limits.{GoesOn, Leaves, written_in, written_of}
 use Rattle.esql_parse.specs.Machine.{need, need_inside, pipes, piped, start, walk}

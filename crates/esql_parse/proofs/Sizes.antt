@@ -13,16 +13,17 @@ use Rattle.esql_ast.specs.declared.query.StatsField.{StatsField}
 use Rattle.esql_ast.specs.declared.query.SortKey.{SortKey}
 use Rattle.esql_ast.specs.Numbering.{Numbering, size_all, numbering_in, numbering_of, numbering_of_form, size_of, size_of_form, numbering_of_field, numbering_of_stats, numbering_of_key, size_of_fields, size_of_kind, numbering_of_command, size_of_query}
 use Rattle.esql_ast.proofs.Numberings.{expr_size, form_numbering}
-use Rattle.esql_expr.specs.declared.lexeme.Lexeme.{Lexeme}
-use Rattle.esql_expr.specs.declared.lexeme.Lexeme.TheVariants.{Plain, Text, Sign as Mark, End}
-use Rattle.esql_expr.specs.declared.machine.Part.{Part}
-use Rattle.esql_expr.specs.Parts.{expr_of}
-use Rattle.esql_expr.specs.Phrases.{operator, IsWords, is_words, is_not_words, Phrase, looser, number_line, text_line, true_line, false_line, null_line, list_line, name_line, group_line, empty_line, star_line, call_line, cast_line, minus_line, not_line, binary_line, in_line, like_line, is_line, Items, one_item, next_item}
-use Rattle.esql_parse.specs.declared.state.Body.{Body}
-use Rattle.esql_parse.specs.declared.state.Body.TheVariants as body
-use Rattle.esql_parse.specs.declared.state.CommandWord.{CommandWord}
+use Rattle.esql_phrases.specs.declared.lexeme.Lexeme.{Lexeme}
+use Rattle.esql_phrases.specs.declared.lexeme.Lexeme.TheVariants.{Plain, Text, Sign as Mark, End}
+use Rattle.esql_phrases.specs.declared.part.Part.{Part}
+use Rattle.esql_phrases.specs.Parts.{expr_of}
+use Rattle.esql_phrases.specs.Phrases.{operator, IsWords, is_words, is_not_words, Phrase, looser, number_line, text_line, true_line, false_line, null_line, list_line, name_line, group_line, empty_line, star_line, call_line, cast_line, minus_line, not_line, binary_line, in_line, like_line, is_line, Items, one_item, next_item}
+use Rattle.esql_commands.specs.declared.point.Body.{Body}
+use Rattle.esql_commands.specs.declared.point.Body.TheVariants as body
+use Rattle.esql_commands.specs.declared.point.CommandWord.{CommandWord}
 use Rattle.esql_parse.specs.declared.state.Written.{Written}
-use Rattle.esql_parse.specs.Grammar.{Listed, first_item, next_item as later_item, FieldLine, field_line, StatsLine, open_line, where_line, KeyLine, key_line, ByFields, no_groups, by_fields, Says, from_says, row_says, where_says, eval_says, keep_says, drop_says, rename_says, sort_says, limit_says, expand_says, stats_says, stats_by_says, dissect_says, grok_says, enrich_says, join_says, CommandLine, command_line, begin_with, go_on_with, Piped, source_line, pipe_line, SpellsQuery, query_line}
+use Rattle.esql_commands.specs.Grammar.{Listed, first_item, next_item as later_item, FieldLine, field_line, StatsLine, open_line, where_line, KeyLine, key_line, ByFields, no_groups, by_fields, Says, from_says, row_says, where_says, eval_says, keep_says, drop_says, rename_says, sort_says, limit_says, expand_says, stats_says, stats_by_says, dissect_says, grok_says, enrich_says, join_says, CommandLine, command_line}
+use Rattle.esql_parse.specs.Grammar.{begin_with, go_on_with, Piped, source_line, pipe_line, SpellsQuery, query_line}
 
 -- ---- expressions
 

@@ -3,31 +3,33 @@ use Rattle.std.proofs.Common.{◌≡◌, ℕ, ◌≤◌, max, Bool, true, false,
 use Rattle.esql_types.specs.declared.places.Span.{Span}
 use Rattle.esql_lex.specs.declared.token.Sign.TheVariants as sign
 use Rattle.esql_ast.specs.declared.query.NameAt.{NameAt}
-use Rattle.esql_expr.specs.declared.lexeme.Lexeme.{Lexeme}
-use Rattle.esql_expr.specs.declared.lexeme.Lexeme.TheVariants.{Plain, Sign as Mark, End}
+use Rattle.esql_phrases.specs.declared.lexeme.Lexeme.{Lexeme}
+use Rattle.esql_phrases.specs.declared.lexeme.Lexeme.TheVariants.{Plain, Sign as Mark, End}
 use Rattle.esql_expr.specs.declared.machine.Reader.{Reader}
 use Rattle.esql_expr.specs.declared.machine.Stepped.{Stepped}
 use Rattle.esql_expr.specs.declared.machine.Stepped.TheVariants.{Goes, Ends, Stuck}
-use Rattle.esql_expr.specs.Ends.{span_at}
+use Rattle.esql_phrases.specs.Ends.{span_at}
 use Rattle.esql_expr.specs.Machine as expr
-use Rattle.esql_expr.specs.Parts.{join}
+use Rattle.esql_phrases.specs.Parts.{join}
 use Rattle.esql_expr.proofs.Fronts.{ends_spelled}
 use Rattle.esql_expr.proofs.Sound.{and_then_some}
 use Rattle.esql_expr.proofs.Walks.{walk-append}
-use Rattle.esql_parse.specs.declared.state.Body.{Body}
-use Rattle.esql_parse.specs.declared.state.CommandWord.{CommandWord}
-use Rattle.esql_parse.specs.declared.state.CommandWord.TheVariants as begins
-use Rattle.esql_parse.specs.declared.state.Inside.{Inside}
-use Rattle.esql_parse.specs.declared.state.Inside.TheVariants.{Open, At, Done}
-use Rattle.esql_parse.specs.declared.state.Point.{Point}
-use Rattle.esql_parse.specs.declared.state.Point.TheVariants as point
-use Rattle.esql_parse.specs.declared.state.Slot.{Slot}
-use Rattle.esql_parse.specs.declared.state.Slot.TheVariants as slot
+use Rattle.esql_commands.specs.declared.point.Body.{Body}
+use Rattle.esql_commands.specs.declared.point.CommandWord.{CommandWord}
+use Rattle.esql_commands.specs.declared.point.CommandWord.TheVariants as begins
+use Rattle.esql_commands.specs.declared.point.Inside.{Inside}
+use Rattle.esql_commands.specs.declared.point.Inside.TheVariants.{Open, At, Done}
+use Rattle.esql_commands.specs.declared.point.Point.{Point}
+use Rattle.esql_commands.specs.declared.point.Point.TheVariants as point
+use Rattle.esql_commands.specs.declared.point.Slot.{Slot}
+use Rattle.esql_commands.specs.declared.point.Slot.TheVariants as slot
 use Rattle.esql_parse.specs.declared.state.State.{State}
 use Rattle.esql_parse.specs.declared.state.Written.{Written}
-use Rattle.esql_parse.specs.Grammar.{no_name, CommandLine, command_line, with_body, Piped, source_line, pipe_line, SpellsQuery, query_line, last_span}
-use Rattle.esql_parse.specs.Machine.{line_in, begin_source, begin_command, after_point, body_at, word_after, moved, ended_with, ended, step_point, step_expr, step_inside, step, start, walk}
-use Rattle.esql_parse.specs.Words.{command_word}
+use Rattle.esql_commands.specs.Grammar.{no_name, CommandLine, command_line, last_span}
+use Rattle.esql_parse.specs.Grammar.{with_body, Piped, source_line, pipe_line, SpellsQuery, query_line}
+use Rattle.esql_commands.specs.Points.{line_in, begin_source, begin_command, after_point, body_at}
+use Rattle.esql_parse.specs.Machine.{word_after, moved, ended_with, ended, step_point, step_expr, step_inside, step, start, walk}
+use Rattle.esql_commands.specs.Words.{command_word}
 use Rattle.esql_parse.proofs.Reached.{none_yet, row_opens, eval_opens, Before, field_before, filter_before, key_before, dissect_before, grok_before, keeps, drops, Inner, in_slot, expr_ended, from_next, pattern_next, rename_next, limit_wants, expand_wants, stats_wants, enrich_wants, lookup_wants, Lead, first_command, later_command, is_source, is_first, next_command, Read, to_begin, in_command, at_end}
 use Rattle.esql_parse.proofs.Steps.{last_span-append}
 use Rattle.esql_parse.proofs.Bodies.{body_read}

@@ -3,28 +3,29 @@ use Rattle.std.proofs.Common.{◌≡◌, ℕ, max, List, [], ◌∷◌, ◌++◌
 use Rattle.std.proofs.Math.Nat.{max-zero}
 use Rattle.esql_types.specs.declared.places.Span.{Span}
 use Rattle.esql_lex.specs.declared.token.Sign.TheVariants as sign
-use Rattle.esql_expr.specs.declared.lexeme.Lexeme.{Lexeme}
-use Rattle.esql_expr.specs.declared.lexeme.Lexeme.TheVariants.{Sign as Mark, End}
-use Rattle.esql_expr.specs.declared.machine.Part.{Part}
+use Rattle.esql_phrases.specs.declared.lexeme.Lexeme.{Lexeme}
+use Rattle.esql_phrases.specs.declared.lexeme.Lexeme.TheVariants.{Sign as Mark, End}
+use Rattle.esql_phrases.specs.declared.part.Part.{Part}
 use Rattle.esql_expr.specs.declared.machine.Reader.{Reader}
 use Rattle.esql_expr.specs.declared.machine.Stepped.{Stepped}
 use Rattle.esql_expr.specs.declared.machine.Stepped.TheVariants.{Goes, Ends, Stuck}
-use Rattle.esql_expr.specs.Ends.{span_at}
-use Rattle.esql_expr.specs.Phrases.{Phrase}
+use Rattle.esql_phrases.specs.Ends.{span_at}
+use Rattle.esql_phrases.specs.Phrases.{Phrase}
 use Rattle.esql_expr.specs.Machine as expr
 use Rattle.esql_expr.specs.Machine.{opener, close}
 use Rattle.esql_expr.proofs.Walks.{and_then_assoc, and_then_same, leaves_all, NoParen, none_stops}
 use Rattle.esql_expr.proofs.Complete.{reads}
 use Rattle.esql_parse.specs.declared.state.Written.{Written}
-use Rattle.esql_parse.specs.declared.state.Slot.{Slot}
-use Rattle.esql_parse.specs.declared.state.Point.{Point}
-use Rattle.esql_parse.specs.declared.state.Point.TheVariants as point
-use Rattle.esql_parse.specs.declared.state.Inside.{Inside}
-use Rattle.esql_parse.specs.declared.state.Inside.TheVariants.{Open, At, Done}
+use Rattle.esql_commands.specs.declared.point.Slot.{Slot}
+use Rattle.esql_commands.specs.declared.point.Point.{Point}
+use Rattle.esql_commands.specs.declared.point.Point.TheVariants as point
+use Rattle.esql_commands.specs.declared.point.Inside.{Inside}
+use Rattle.esql_commands.specs.declared.point.Inside.TheVariants.{Open, At, Done}
 use Rattle.esql_parse.specs.declared.state.State.{State}
-use Rattle.esql_parse.specs.declared.state.Body.{Body}
-use Rattle.esql_parse.specs.Grammar.{last_span}
-use Rattle.esql_parse.specs.Machine.{after_point, body_at, moved, ended_with, ended, step_point, step_expr, step, walk}
+use Rattle.esql_commands.specs.declared.point.Body.{Body}
+use Rattle.esql_commands.specs.Grammar.{last_span}
+use Rattle.esql_commands.specs.Points.{after_point, body_at}
+use Rattle.esql_parse.specs.Machine.{moved, ended_with, ended, step_point, step_expr, step, walk}
 
 pub walk-append : (v w : List Lexeme) (from : State) → walk (v ++ w) from ≡ expr.and_then (walk v from) (walk w)
 walk-append [] w from = refl

@@ -7,27 +7,29 @@ use Rattle.esql_lex.specs.declared.token.Sign.TheVariants as sign
 use Rattle.esql_ast.specs.declared.query.NameAt.{NameAt}
 use Rattle.esql_ast.specs.declared.query.TextAt.{TextAt}
 use Rattle.esql_ast.specs.declared.query.NamePattern.{NamePattern}
-use Rattle.esql_expr.specs.declared.lexeme.Lexeme.{Lexeme}
-use Rattle.esql_expr.specs.declared.lexeme.Lexeme.TheVariants.{Plain, Pattern as Wild, Source as Table, Text, Number, Word, Sign as Mark, End}
-use Rattle.esql_expr.specs.declared.machine.Part.{Part}
-use Rattle.esql_expr.specs.Parts.{join}
-use Rattle.esql_expr.specs.Phrases.{Phrase, number_line}
+use Rattle.esql_phrases.specs.declared.lexeme.Lexeme.{Lexeme}
+use Rattle.esql_phrases.specs.declared.lexeme.Lexeme.TheVariants.{Plain, Pattern as Wild, Source as Table, Text, Number, Word, Sign as Mark, End}
+use Rattle.esql_phrases.specs.declared.part.Part.{Part}
+use Rattle.esql_phrases.specs.Parts.{join}
+use Rattle.esql_phrases.specs.Phrases.{Phrase, number_line}
 use Rattle.esql_expr.proofs.Fronts.{goes_on}
 use Rattle.esql_expr.proofs.Walks.{lift}
-use Rattle.esql_parse.specs.declared.state.Body.{Body}
-use Rattle.esql_parse.specs.declared.state.Body.TheVariants as body
-use Rattle.esql_parse.specs.declared.state.CommandWord.{CommandWord}
-use Rattle.esql_parse.specs.declared.state.CommandWord.TheVariants as begins
-use Rattle.esql_parse.specs.declared.state.Inside.{Inside}
-use Rattle.esql_parse.specs.declared.state.Inside.TheVariants.{Open, At, Done}
-use Rattle.esql_parse.specs.declared.state.Point.{Point}
-use Rattle.esql_parse.specs.declared.state.Point.TheVariants as point
-use Rattle.esql_parse.specs.declared.state.Slot.{Slot}
+use Rattle.esql_commands.specs.declared.point.Body.{Body}
+use Rattle.esql_commands.specs.declared.point.Body.TheVariants as body
+use Rattle.esql_commands.specs.declared.point.CommandWord.{CommandWord}
+use Rattle.esql_commands.specs.declared.point.CommandWord.TheVariants as begins
+use Rattle.esql_commands.specs.declared.point.Inside.{Inside}
+use Rattle.esql_commands.specs.declared.point.Inside.TheVariants.{Open, At, Done}
+use Rattle.esql_commands.specs.declared.point.Point.{Point}
+use Rattle.esql_commands.specs.declared.point.Point.TheVariants as point
+use Rattle.esql_commands.specs.declared.point.Slot.{Slot}
 use Rattle.esql_parse.specs.declared.state.State.{State}
 use Rattle.esql_parse.specs.declared.state.Written.{Written}
-use Rattle.esql_parse.specs.Grammar.{first_item, no_name, field_line, open_line, table_line, Says, from_says, limit_says, command_line, with_body, SpellsQuery, query_line, last_span}
-use Rattle.esql_parse.specs.Machine.{line_in, joins, after_point, body_at, need_inside, need, piped, pipes, start, walk}
-use Rattle.esql_parse.specs.Words.{command_word, is_join}
+use Rattle.esql_commands.specs.Grammar.{first_item, no_name, field_line, open_line, table_line, Says, from_says, limit_says, command_line, last_span}
+use Rattle.esql_parse.specs.Grammar.{with_body, SpellsQuery, query_line}
+use Rattle.esql_commands.specs.Points.{line_in, joins, after_point, body_at}
+use Rattle.esql_parse.specs.Machine.{need_inside, need, piped, pipes, start, walk}
+use Rattle.esql_commands.specs.Words.{command_word, is_join}
 use Rattle.esql_parse.proofs.Reached.{Before, field_before, aggregate_before, restriction_before, filter_before, key_before, dissect_before, grok_before, Inner, in_slot, expr_ended, from_next, from_table, pattern_next, pattern_read, rename_next, rename_before, rename_as, rename_after, key_order, key_nulls, key_whole, limit_wants, expand_wants, stats_wants, dissect_pattern, dissect_separator, dissect_assign, enrich_wants, enrich_policy, enrich_on, enrich_column, enrich_next, enrich_name, enrich_assign, enrich_field, lookup_wants, join_wants, join_table, join_on, whole, Lead, is_source, is_first, next_command, Read, to_begin, in_command, at_end}
 use Rattle.esql_parse.proofs.Bodies.{says_as, stats_only, body_read}
 use Rattle.esql_parse.proofs.Points.{point_read}

@@ -3,4 +3,3 @@ pub mod Limits
 pub mod Machine
 pub mod Refusals
 pub mod Spells
-pub mod Words

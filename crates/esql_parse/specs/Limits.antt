@@ -1,11 +1,11 @@
 -- A step of the machine within the limits of 100 for the depth and of 200 commands after the source.
 use Rattle.std.specs.Prelude.{◌≡◌, ℕ, ◌≤◌, ◌<◌, Option, Some, None}
-use Rattle.esql_expr.specs.declared.lexeme.Lexeme.{Lexeme}
+use Rattle.esql_phrases.specs.declared.lexeme.Lexeme.{Lexeme}
 use Rattle.esql_parse.specs.declared.error.ParseError.{ParseError}
 use Rattle.esql_parse.specs.declared.error.ParseError.TheVariants.{Unexpected, TooDeep, TooMany, Memory}
 use Rattle.esql_parse.specs.declared.state.Written.{Written}
-use Rattle.esql_parse.specs.declared.state.Inside.{Inside}
-use Rattle.esql_parse.specs.declared.state.Inside.TheVariants.{Done}
+use Rattle.esql_commands.specs.declared.point.Inside.{Inside}
+use Rattle.esql_commands.specs.declared.point.Inside.TheVariants.{Done}
 use Rattle.esql_parse.specs.declared.state.State.{State}
 use Rattle.esql_parse.specs.Machine.{step, need, pipes}
 

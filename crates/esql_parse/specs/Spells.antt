@@ -1,12 +1,10 @@
 -- The query that the tokens of a text spell, and what is known of it.
 use Rattle.std.specs.Prelude.{◌≡◌, ◌⊎◌, ℕ, ◌≤◌, ◌<◌, List, length, map, Result, MatchResult}
-use Rattle.std.specs.List.{range_with_len}
 use Rattle.esql_lex.specs.declared.token.Token.{Token}
 use Rattle.esql_ast.specs.declared.query.Query.{Query}
-use Rattle.esql_ast.specs.Nodes.{nodes_of}
 use Rattle.esql_ast.specs.Numbering.{numbered_query}
-use Rattle.esql_expr.specs.declared.lexeme.Lexeme.{Lexeme}
-use Rattle.esql_expr.specs.Lexemes.{lexeme_of}
+use Rattle.esql_phrases.specs.declared.lexeme.Lexeme.{Lexeme}
+use Rattle.esql_phrases.specs.Lexemes.{lexeme_of}
 use Rattle.esql_parse.specs.declared.error.ParseError.{ParseError}
 use Rattle.esql_parse.specs.declared.error.ParseError.TheVariants.{Unexpected, TooDeep, TooMany, Memory}
 use Rattle.esql_parse.specs.declared.state.Written.{Written}
@@ -44,10 +42,6 @@ IsQueryOrMemory result query = MatchResult result (λ answered. answered ≡ que
 -- what is answered is the refusal, or memory was refused
 abbrev pub IsRefusalOrMemory : Result Query ParseError → ParseError → Type 0
 IsRefusalOrMemory result error = MatchResult result (λ answered. ⊥) (λ answered. (answered ≡ error) ⊎ IsWantOfMemory answered)
-
--- the nodes are numbered from 0 in written order, and the query has as many
-abbrev pub IsNumbered : Query → Type 0
-IsNumbered query = map (λ place. place.node.0) (nodes_of query) ≡ range_with_len 0 query.nodes
 
 -- a refusal names one of the tokens
 abbrev pub NamesToken : List Token → ParseError → Type 0

@@ -3,17 +3,19 @@
 ghost use Rattle.std.specs.Prelude.{◌≡◌, ◌⊎◌, ℕ, ◌≤◌, ◌<◌, length, IfOk, IfErr, MatchResult};
 ghost use Rattle.esql_ast.specs.declared.query.Query.{Query};
 ghost use Rattle.esql_ast.specs.Fits.{QueryFits};
+ghost use Rattle.esql_ast.specs.Laws.{IsNumbered};
 ghost use Rattle.esql_parse.specs.declared.error.ParseError.{ParseError};
 ghost use Rattle.esql_lex.specs.Tokens.{FitsText};
 ghost use Rattle.esql_parse.specs.Grammar.{SpellsQuery};
 ghost use Rattle.esql_parse.specs.Limits.{GoesOn, Leaves, written_of};
 ghost use Rattle.esql_parse.specs.Machine.{need};
-ghost use Rattle.esql_parse.specs.Spells.{Spells, lexemes_of, IsWantOfMemory, Refuses, IsQueryOrMemory, IsRefusalOrMemory, IsNumbered, NamesToken};
+ghost use Rattle.esql_parse.specs.Spells.{Spells, lexemes_of, IsWantOfMemory, Refuses, IsQueryOrMemory, IsRefusalOrMemory, NamesToken};
 
-use crate::{Inside, ParseError, State, Written};
+use crate::{ParseError, State, Written};
 use esql_ast::{Query, numbered_query, numbers_in_order};
-use esql_expr::{Lexeme, lexeme_of};
+use esql_commands::Inside;
 use esql_lex::Token;
+use esql_phrases::{Lexeme, lexeme_of};
 use esql_types::Seq;
 use std::alloc::Global;
 

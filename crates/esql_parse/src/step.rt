@@ -1,32 +1,17 @@
 //! What a lexeme makes of a query that is being read.
 
 ghost use Rattle.std.specs.Prelude.{◌≡◌, ◌≤◌, nat_le, IfOk};
-ghost use Rattle.esql_expr.specs.Ends.{span_at};
 ghost use Rattle.esql_parse.specs.Machine.{word_after, ended, step_point, step, start, need, pipes};
 
-use crate::after::after_point;
-use crate::whole::{body_at, with_body};
-use crate::{Body, Inside, Point, State};
-use esql_expr::{Lexeme, Stepped};
+use crate::State;
+use crate::written::with_body;
+use esql_commands::{Body, Inside, Point, after_point, body_at};
+use esql_expr::Stepped;
 use esql_lex::Sign;
+use esql_phrases::{Lexeme, span_at};
 use esql_types::Span;
 use std::alloc::{AllocError, Global};
 use std::mem;
-
-fn span_at(next: &Lexeme) -> Span
-    ensures { result ≡ span_at next.now }
-{
-    match next {
-        Lexeme::Plain(name) | Lexeme::Dotted(name) | Lexeme::Quoted(name) => name.span,
-        Lexeme::Pattern(pattern) => pattern.span,
-        Lexeme::Source(name) => name.span,
-        Lexeme::Text(text) => text.span,
-        Lexeme::Number { span, .. } => *span,
-        Lexeme::Word { span, .. } => *span,
-        Lexeme::Sign { span, .. } => *span,
-        Lexeme::End { span } => *span,
-    }
-}
 
 // The word of the open command.
 fn word_after(point: &Point, word: Span, next: &Lexeme) -> Span
@@ -83,14 +68,8 @@ fn step_point(
             ..
         } => {
             let says = body_at(alloc, point)?;
-            ended(
-                alloc,
-                state,
-                deepest,
-                &next,
-                Inside::At(Point::Command),
-                says,
-            )
+            let inside = Inside::At(Point::Command);
+            ended(alloc, state, deepest, &next, inside, says)
         }
         Lexeme::End { .. } => {
             let says = body_at(alloc, point)?;

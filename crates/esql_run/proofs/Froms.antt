@@ -17,7 +17,7 @@ use Rattle.esql_ast.specs.declared.query.SourceCommand.{SourceCommand}
 use Rattle.esql_ast.specs.declared.query.SourceCommand.TheVariants.{Tables}
 use Rattle.esql_ast.specs.Fits.{QueryFits}
 use Rattle.esql_ast.specs.Nodes.{nodes_of_source, nodes_of_command}
-use Rattle.esql_ast.proofs.PartsFit.{All-front}
+use Rattle.esql_types.proofs.Lists.{All-front}
 use Rattle.ndjson_load.specs.declared.column.MappedColumn.{MappedColumn}
 use Rattle.table_files.specs.declared.stop.Stop.{Stop}
 use Rattle.table_files.specs.declared.stop.Stop.TheVariants.{UnknownTable, BadData, ReadFault as StoppedByFault, Memory as StoppedByMemory}

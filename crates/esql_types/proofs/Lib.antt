@@ -1,3 +1,4 @@
 mod Lines
+pub mod Lists
 mod Readings
 mod Walks

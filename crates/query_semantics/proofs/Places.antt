@@ -10,7 +10,8 @@ use Rattle.esql_ast.specs.declared.expr.Form.TheVariants.{Group, Binary}
 use Rattle.esql_ast.specs.declared.query.Command.{Command}
 use Rattle.esql_ast.specs.Fits.{ExprFits, FormFits}
 use Rattle.esql_ast.specs.Nodes.{nodes_of_command}
-use Rattle.esql_ast.proofs.PartsFit.{All-front, All-back, form_fits, group_fits, binary_fits}
+use Rattle.esql_types.proofs.Lists.{All-front, All-back}
+use Rattle.esql_ast.proofs.PartsFit.{form_fits, group_fits, binary_fits}
 
 pub inner_fits : (text : List ℕ) (expr inner : Expr) → expr.form ≡ Group inner → ExprFits text expr → ExprFits text inner
 inner_fits text expr inner is fits = group_fits text inner (subst (FormFits text) is (form_fits text expr fits))

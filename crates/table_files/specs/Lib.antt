@@ -3,4 +3,3 @@ pub mod Messages
 pub mod Reading
 pub mod Shapes
 pub mod Stops
-pub mod Uses

@@ -1,4 +1,4 @@
-//! The tables that a query names: `gather` finds them by their mappings, `load` reads their rows.
+//! Tables by their names: `gather` finds them by their mappings, `load` reads their rows.
 #![tactic(auto)]
 
 mod gathering;
@@ -7,9 +7,7 @@ mod messages;
 mod stop;
 #[cfg(test)]
 mod tests;
-mod uses;
 
 pub use gathering::gather;
 pub use loading::load;
 pub use stop::{Stop, TableSource};
-pub use uses::{SourceUse, source_names};

@@ -1,7 +1,7 @@
 use super::*;
-use esql_ast::{Command, CommandKind, NameAt, Query, SourceCommand};
+use esql_ast::NameAt;
 use esql_io::{HeldFile, MemoryFiles};
-use esql_types::{NodeId, Seq, Span, Text};
+use esql_types::{Seq, Span, Text};
 use ndjson_load::Table;
 use std::alloc::{AllocError, Global};
 use std::test::Fail;
@@ -177,71 +177,4 @@ fn each_failed_call_is_a_fault(rt: HostRuntime) -> Result<(), Fail> {
         assert_eq!(rt; answer.as_str(), wanted);
     }
     Ok(())
-}
-
-fn name_at(alloc: Global, name: &str, from: u32) -> Result<NameAt, AllocError> {
-    Ok(NameAt {
-        name: Text::from_str(alloc, name)?,
-        span: Span { from, to: from },
-    })
-}
-
-// FROM t, u, t | ENRICH p | LOOKUP JOIN u ON a | ENRICH u
-#[test]
-fn names_count_at_their_first_place(rt: HostRuntime) -> Result<(), Fail> {
-    let alloc = rt.alloc();
-    let span = Span { from: 0, to: 1 };
-    let node = NodeId(0);
-    let mut tables = Seq::new(alloc);
-    tables.push(name_at(alloc, "t", 5)?)?;
-    tables.push(name_at(alloc, "u", 8)?)?;
-    tables.push(name_at(alloc, "t", 11)?)?;
-    let mut commands = Seq::new(alloc);
-    commands.push(Command {
-        node,
-        span,
-        kind: enrich(name_at(alloc, "p", 22)?),
-    })?;
-    commands.push(Command {
-        node,
-        span,
-        kind: CommandKind::Join {
-            table: name_at(alloc, "u", 38)?,
-            on: name_at(alloc, "a", 43)?,
-        },
-    })?;
-    commands.push(Command {
-        node,
-        span,
-        kind: enrich(name_at(alloc, "u", 54)?),
-    })?;
-    let query = Query {
-        source: SourceCommand::Tables { node, span, tables },
-        commands,
-        nodes: 4,
-    };
-    let uses = source_names(alloc, &query)?;
-    let mut text = String::new(alloc);
-    for used in uses.as_slice() {
-        let kind = if used.policy { "policy" } else { "table" };
-        write!(
-            text,
-            "{kind} {} at {}; ",
-            used.name.name.as_str(),
-            used.name.span.from
-        )?;
-    }
-    assert_eq!(rt;
-        text.as_str(),
-        "table t at 5; table u at 8; policy p at 22; policy u at 54; "
-    );
-    Ok(())
-}
-
-fn enrich(policy: NameAt) -> CommandKind {
-    CommandKind::Enrich {
-        policy,
-        on: None,
-        fields: None,
-    }
 }

@@ -5,7 +5,7 @@ use Rattle.esql_ast.specs.declared.nodes.NodeAt.{NodeAt}
 use Rattle.esql_ast.specs.declared.query.Command.{Command}
 use Rattle.esql_ast.specs.Fits.{KindFits}
 use Rattle.esql_ast.specs.Nodes.{nodes_of_source, nodes_of_command}
-use Rattle.esql_ast.proofs.PartsFit.{All-front, All-back}
+use Rattle.esql_types.proofs.Lists.{All-front, All-back}
 use Rattle.query_semantics.proofs.Firsts.{IfSome-first_of}
 use Rattle.query_semantics.proofs.Places.{own_spans_fit}
 use Rattle.query_semantics.proofs.unbuilt.first_unbuilt.Goals as goal

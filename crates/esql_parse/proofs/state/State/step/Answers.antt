@@ -1,6 +1,6 @@
 use Rattle.std.proofs.Common.{◌≡◌, IfOk, sym, ◌∙◌, subst}
 use Rattle.esql_expr.specs.declared.machine.Stepped.TheVariants.{Ends}
-use Rattle.esql_parse.specs.declared.state.Point.TheVariants.{Ended}
+use Rattle.esql_commands.specs.declared.point.Point.TheVariants.{Ended}
 use Rattle.esql_parse.specs.Machine.{step_point}
 use Rattle.esql_parse.proofs.Apart.{put_inside, open_step}
 use Rattle.esql_parse.proofs.state.State.step.Goals as goal

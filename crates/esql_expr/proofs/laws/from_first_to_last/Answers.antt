@@ -1,5 +1,0 @@
-use Rattle.esql_expr.proofs.Spans.{spans}
-use Rattle.esql_expr.proofs.laws.from_first_to_last.Goals as goal
-
-pub returns : goal.returns
-returns c line lexemes part phrase = spans phrase

@@ -1,5 +1,0 @@
-use Rattle.esql_expr.proofs.Fits.{phrase_fits}
-use Rattle.esql_expr.proofs.laws.spans_fit.Goals as goal
-
-pub returns : goal.returns
-returns c text line lexemes part phrase stands = phrase_fits phrase stands

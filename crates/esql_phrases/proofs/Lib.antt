@@ -1,0 +1,4 @@
+pub mod Begins
+pub mod Fits
+pub mod Spans
+pub mod Stands
