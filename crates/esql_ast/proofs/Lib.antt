@@ -6,3 +6,5 @@ pub mod QueryInTurn
 pub mod KeepsFit
 pub mod NumberedQuery
 pub mod PartsFit
+pub mod DepthParts
+pub mod KeepsDepth

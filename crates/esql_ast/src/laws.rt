@@ -1,8 +1,9 @@
-//! Laws of the numbers and the spans of a query.
+//! Laws of the numbers, the spans and the depth of a query.
 
 ghost use Rattle.std.specs.Prelude.{◌≡◌, ℕ, List};
 ghost use Rattle.esql_ast.specs.declared.query.Command.{Command};
 ghost use Rattle.esql_ast.specs.declared.query.SourceCommand.{SourceCommand};
+ghost use Rattle.esql_ast.specs.Depths.{depth_of_query};
 ghost use Rattle.esql_ast.specs.Fits.{QueryFits};
 ghost use Rattle.esql_ast.specs.Numbering.{numbered_query};
 ghost use Rattle.esql_ast.specs.Laws.{as_it_was, spans_of, IsNumbered};
@@ -20,4 +21,9 @@ pub fn numbering_keeps_spans()
 /// A law: where the spans of a query are parts of a text, they still are once it is numbered.
 pub fn numbering_keeps_fit()
     ensures { (text : List ℕ) (source : SourceCommand) (commands : List Command) → QueryFits text (as_it_was source commands) → QueryFits text (numbered_query source commands) }
+{}
+
+/// A law: the deepest expression of a query is as deep once the query is numbered.
+pub fn numbering_keeps_depth()
+    ensures { (source : SourceCommand) (commands : List Command) → depth_of_query (numbered_query source commands) ≡ depth_of_query (as_it_was source commands) }
 {}

@@ -13,7 +13,9 @@ mod tests_uses;
 mod uses;
 
 pub use expr::{BinaryOp, Expr, Form};
-pub use laws::{numbering_keeps_fit, numbering_keeps_spans, numbers_in_order};
+pub use laws::{
+    numbering_keeps_depth, numbering_keeps_fit, numbering_keeps_spans, numbers_in_order,
+};
 pub use nodes::{NodeAt, nodes_of};
 pub use numbering::numbered_query;
 pub use query::{
