@@ -284,16 +284,21 @@ fn files_fail_and_are_missing(rt: HostRuntime) -> Result<(), Fail> {
     let missing = read_whole(alloc, &mut files(alloc, b"x", NEVER)?, "t.mapping.json")?;
     assert!(rt; missing.is_none());
     let mut nested = String::from_str(alloc, "{\"a\":")?;
-    for _ in 0..200 {
-        nested.push_str("[")?;
-    }
-    for _ in 0..200 {
-        nested.push_str("]")?;
-    }
+    nested.push_str("[".repeat(alloc, 200)?.as_str())?;
+    nested.push_str("]".repeat(alloc, 200)?.as_str())?;
     nested.push_str("}")?;
     assert_eq!(rt;
         table(alloc, long, nested.as_str().as_bytes(), NEVER)?.as_str(),
         "1 [] NotJson"
     );
+    Ok(())
+}
+
+#[test]
+fn a_row_follows_many_spaces(rt: HostRuntime) -> Result<(), Fail> {
+    let mut line = " ".repeat(rt.alloc(), 1_000_000)?;
+    line.push_str("{\"a\":1}")?;
+    let shown = table(rt.alloc(), LONG, line.as_str().as_bytes(), NEVER)?;
+    assert_eq!(rt; shown.as_str(), "[1L ]\n");
     Ok(())
 }
