@@ -1,6 +1,6 @@
 use super::*;
-use esql_io::{HeldFile, MemoryFiles, MemorySink};
-use esql_types::{CrateMaker, Seq, Text};
+use esql_io::{Failed, Files, HeldFile, MemoryFiles, MemorySink};
+use esql_types::{CrateMaker, Name, Noted, Seq, Text};
 use std::alloc::{AllocError, Global};
 use std::test::Fail;
 
@@ -116,21 +116,28 @@ fn run_over(
     table: (&str, &str),
     failing: u64,
 ) -> Result<(Status, MemorySink, MemorySink), AllocError> {
-    let mut words = Vec::new(alloc);
-    words.push(String::from_str(alloc, query)?)?;
     let mut held = Seq::new(alloc);
     hold(&mut held, alloc, "t.mapping.json", table.0)?;
     hold(&mut held, alloc, "t.ndjson", table.1)?;
     let mut calls = Seq::new(alloc);
     calls.push(failing)?;
-    let mut files = MemoryFiles::new(held, 16, calls);
+    run_with(alloc, query, &mut MemoryFiles::new(held, 16, calls))
+}
+
+fn run_with<F: Files>(
+    alloc: Global,
+    query: &str,
+    files: &mut F,
+) -> Result<(Status, MemorySink, MemorySink), AllocError> {
+    let mut words = Vec::new(alloc);
+    words.push(String::from_str(alloc, query)?)?;
     let mut maker = CrateMaker::new(Seq::new(alloc));
     let mut out = MemorySink::new(alloc, 100_000, 1000, Seq::new(alloc))?;
     let mut err = MemorySink::new(alloc, 100_000, 1000, Seq::new(alloc))?;
     let status = run(
         alloc,
         words.as_slice(),
-        &mut files,
+        files,
         &mut maker,
         &mut out,
         &mut err,
@@ -182,5 +189,76 @@ fn a_failed_read_ends_the_run(rt: HostRuntime) -> Result<(), Fail> {
             assert_eq!(rt; err.bytes(), line.as_bytes());
         }
     }
+    Ok(())
+}
+
+/// The most spaces that one read gives.
+const SPACES: [u8; 8_192] = [b' '; 8_192];
+
+/// The mapping of the long column `a`, and rows of more spaces than a file may have, which are counted and not held.
+#[derive(Drop)]
+struct TooManySpaces {
+    current: Option<Noted>,
+    front: &'static [u8],
+    spaces: usize,
+}
+
+impl Files for TooManySpaces {
+    ghost use Rattle.std.specs.Prelude.{[], None, option_map};
+
+    ghost holds = { λ _. None };
+
+    ghost opened = { λ files. option_map (λ name. name.text) files.current };
+
+    ghost left = { λ _. None };
+
+    ghost faults = { λ _. 0 };
+
+    ghost failed = { λ _. [] };
+
+    fn open(&mut self, name: &str) -> Result<bool, Failed> {
+        self.current = None;
+        self.front = b"";
+        self.spaces = 0;
+        if name == "t.mapping.json" {
+            self.front = b"{\"mappings\":{\"properties\":{\"a\":{\"type\":\"long\"}}}}";
+        } else if name == "t.ndjson" {
+            self.spaces = 268_435_457;
+        } else {
+            return Ok(false);
+        }
+        self.current = Some(Noted::new().then(&Name { text: name }));
+        Ok(true)
+    }
+
+    fn read(&mut self, into: &mut [u8]) -> Result<usize, Failed> {
+        if self.front.is_empty() {
+            let count = into.len().min(self.spaces).min(SPACES.len());
+            self.spaces -= count;
+            into[..count].copy_from_slice(&SPACES[..count]);
+            return Ok(count);
+        }
+        let count = into.len().min(self.front.len());
+        let (front, rest) = self.front.split_at(count);
+        self.front = rest;
+        into[..count].copy_from_slice(front);
+        Ok(count)
+    }
+}
+
+#[test]
+fn a_row_file_is_too_large(rt: HostRuntime) -> Result<(), Fail> {
+    let mut files = TooManySpaces {
+        current: None,
+        front: b"",
+        spaces: 0,
+    };
+    let (status, out, err) = run_with(rt.alloc(), "FROM t", &mut files)?;
+    assert_eq!(rt; status, Status::BadData);
+    assert_eq!(rt; out.bytes(), b"".as_slice());
+    assert_eq!(rt;
+        err.bytes(),
+        b"t.ndjson: larger than 268435456 bytes\n".as_slice()
+    );
     Ok(())
 }
