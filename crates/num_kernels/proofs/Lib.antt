@@ -1,7 +1,5 @@
-pub mod Extremes
-pub mod Lanes
+pub mod Bits
 pub mod Numbers
 pub mod Puts
 pub mod Quotients
 pub mod Steps
-pub mod Totals

@@ -1,15 +1,16 @@
 -- Signed numbers by their bits: the tests that the kernels make are the plain ones.
-use Rattle.std.proofs.Common.{◌≡◌, ◌+◌, ◌-◌, ◌*◌, ◌%◌, ◌^◌, ◌≤◌, true, eqb, not, ◌||◌, ap, ◌∙◌, arith, w32, w64}
+use Rattle.std.proofs.Common.{◌≡◌, ◌+◌, ◌-◌, ◌*◌, ◌%◌, ◌^◌, true, eqb, not, ◌||◌, ap, ◌∙◌, arith, w32, w64}
 use Rattle.std.proofs.lemmas.Bool.{lt-ltb, ltb-true}
 use Rattle.std.proofs.lemmas.Int.{ints, to_z-of_z, wrapping_add-bits, wrapping_sub-bits, wrapping_mul-bits, int_wrap_fits, fits_signed_mul}
 use Rattle.std.proofs.Math.Facts.{Fits-of_z, sfits_widen}
 use Rattle.std.specs.Int.{int_wrap}
-use Rattle.std.specs.Int.RustNames.{int_lt, int_le, unsigned_abs}
+use Rattle.std.specs.Int.RustNames.{int_lt, int_le}
 use Rattle.std.specs.Ordering.{int_eq}
 use lib.IntN.{ℤ, pos, negsuc, ◌+ℤ◌, ◌-ℤ◌, ◌*ℤ◌}
 use mathlib.Core.Bool.{beq}
 use mir.Syntax.{Width}
 use mir.Val.{bits, hbits, of_z, to_z, SFits}
+use Rattle.num_folds.proofs.Totals.{abs_of_fitting}
 use Rattle.num_kernels.specs.Numbers.{holds}
 
 pub holds_fits : (w : Width) (z : ℤ) → holds w z ≡ true → SFits w z
@@ -21,9 +22,6 @@ fits_holds w (pos n) f = lt-ltb n (2 ^ hbits w) f.sfits
 fits_holds w (negsuc n) f = lt-ltb n (2 ^ hbits w) f.sfits
 
 module _ (w : Width) (x y : ℤ) (fx : SFits w x) (fy : SFits w y) where
-  pub lt_is : int_lt (to_z w (of_z w x)) (to_z w (of_z w y)) ≡ int_lt x y
-  lt_is = ap (λ (z : ℤ). int_lt z (to_z w (of_z w y))) (to_z-of_z w x fx) ∙ ap (int_lt x) (to_z-of_z w y fy)
-
   pub le_is : int_le (to_z w (of_z w x)) (to_z w (of_z w y)) ≡ int_le x y
   le_is = ap (λ (z : ℤ). int_le z (to_z w (of_z w y))) (to_z-of_z w x fx) ∙ ap (int_le x) (to_z-of_z w y fy)
 
@@ -70,17 +68,13 @@ outside_32 z = grind (arith, ints)
 pub outside_64 : (z : ℤ) → (int_lt z (negsuc 9223372036854775807) || int_lt (pos 9223372036854775807) z) ≡ not (holds w64 z)
 outside_64 z = grind (arith, ints)
 
-abs_le : (w : Width) (x : ℤ) → SFits w x → unsigned_abs x ≤ 2 ^ hbits w
-abs_le w (pos a) f = let s = f.sfits in omega arith
-abs_le w (negsuc a) f = let s = f.sfits in omega arith
-
 module _ (x y : ℤ) (fx : SFits w32 x) (fy : SFits w32 y) where
   wide_product : to_z w64 ((of_z w64 (to_z w32 (of_z w32 x)) * of_z w64 (to_z w32 (of_z w32 y))) % 2 ^ 64) ≡ x *ℤ y
   wide_product =
       ap (λ (z : ℤ). to_z w64 ((of_z w64 z * of_z w64 (to_z w32 (of_z w32 y))) % 2 ^ 64)) (to_z-of_z w32 x fx)
       ∙ ap (λ (z : ℤ). to_z w64 ((of_z w64 x * of_z w64 z) % 2 ^ 64)) (to_z-of_z w32 y fy)
       ∙ product_value w64 x y (sfits_widen tt fx) (sfits_widen tt fy)
-      (fits_holds w64 (x *ℤ y) (fits_signed_mul w64 x y (2 ^ 31) (2 ^ 31) (abs_le w32 x fx) (abs_le w32 y fy) (omega arith)))
+      (fits_holds w64 (x *ℤ y) (fits_signed_mul w64 x y (2 ^ 31) (2 ^ 31) (abs_of_fitting w32 x fx) (abs_of_fitting w32 y fy) (omega arith)))
 
   pub product_fails_32 : (int_lt (to_z w64 ((of_z w64 (to_z w32 (of_z w32 x)) * of_z w64 (to_z w32 (of_z w32 y))) % 2 ^ 64)) (negsuc 2147483647)
       || int_lt (pos 2147483647) (to_z w64 ((of_z w64 (to_z w32 (of_z w32 x)) * of_z w64 (to_z w32 (of_z w32 y))) % 2 ^ 64))) ≡ not (holds w32 (x *ℤ y))

@@ -1,38 +1,13 @@
--- The steps of the kernels' loops, and what holds of 4, 8 and 16 lanes.
-use Rattle.std.proofs.Common.{◌≡◌, ◌≢◌, ℕ, ◌+◌, ◌-◌, ◌*◌, ◌%◌, ◌^◌, ◌<◌, ◌≤◌, ◌⊎◌, ⊎_elim, Bool, true, false, cond, eqb, not, ◌&&◌, List, length, get_or, set, take, drop, refl, sym, ap, ◌∙◌, subst, arith, bit_and, bit_or, w64}
+-- The steps of the kernels' loops.
+use Rattle.std.proofs.Common.{◌≡◌, ◌≢◌, ℕ, ◌+◌, ◌-◌, ◌*◌, ◌%◌, ◌^◌, ◌<◌, ◌≤◌, ⊎_elim, Bool, true, false, cond, eqb, not, ◌&&◌, List, length, get_or, set, take, drop, refl, sym, ap, ◌∙◌, subst, arith, bit_and, bit_or, w64}
 use Rattle.std.proofs.lemmas.Bool.{cases_eq, cases_lt, false≢true}
 use Rattle.std.proofs.lemmas.List.{get_or-set_same, get_or-set_other}
-use Rattle.std.proofs.lemmas.Nat.{and_le_l}
-use Rattle.std.proofs.lemmas.Simd.{bit_mask_l, mask_l-lt, get_or-chunk, length-chunk}
 use Rattle.std.proofs.lemmas.Nat.Bits.{bit_at_set_same, bit_at_set_other}
 use Rattle.std.specs.Int.{bit_at, bit_not}
 use Rattle.bit_masks.proofs.Places.{bit_of_and, bit_of_not}
-use lib.Lanes.{mask_l, chunk}
-use Rattle.num_kernels.specs.Lanes.{set_at, IsLaneCount, Marks}
-
-one_is : (b : Bool) → eqb (cond b 1 0) 1 ≡ b
-one_is true = refl
-one_is false = refl
-
-by_count : (P : ℕ → Type 0) (n : ℕ) → IsLaneCount n → P 4 → P 8 → P 16 → P n
-by_count P n count four eight sixteen =
-    ⊎_elim (λ (e : n ≡ 4). subst P (sym e) four) (λ (more : (n ≡ 8) ⊎ (n ≡ 16)). ⊎_elim (λ (e : n ≡ 8). subst P (sym e) eight) (λ (e : n ≡ 16). subst P (sym e) sixteen) more) count
-
-module _ (n : ℕ) (count : IsLaneCount n) where
-  pub some_lanes : 0 < n
-  some_lanes = by_count (λ m. 0 < m) n count (omega arith) (omega arith) (omega arith)
-
-  pub few_lanes : n ≤ 16
-  few_lanes = by_count (λ m. m ≤ 16) n count (omega arith) (omega arith) (omega arith)
-
-  pub in_one_word : (start : ℕ) → start % n ≡ 0 → start % 64 + n ≤ 64
-  in_one_word start = by_count (λ m. start % m ≡ 0 → start % 64 + m ≤ 64) n count (λ e. omega arith) (λ e. omega arith) (λ e. omega arith)
-
-  pub next_start : (start : ℕ) → start % n ≡ 0 → (start + n) % n ≡ 0
-  next_start start = by_count (λ m. start % m ≡ 0 → (start + m) % m ≡ 0) n count (λ e. omega arith) (λ e. omega arith) (λ e. omega arith)
-
-  pub short_bits : (bits : ℕ) → bits < 2 ^ n → bits < 2 ^ 32
-  short_bits bits = by_count (λ m. bits < 2 ^ m → bits < 2 ^ 32) n count (λ e. omega arith) (λ e. omega arith) (λ e. omega arith)
+use lib.Lanes.{mask_l}
+use Rattle.num_folds.specs.Lanes.{set_at, Marks}
+use Rattle.num_folds.proofs.Steps.{part_bit}
 
 -- a loop that writes one place after another
 module _ {X : Type 0} (d : X) (P : ℕ → X) (xs : List X) (start place : ℕ) (value : X) where
@@ -53,25 +28,12 @@ module _ {X : Type 0} (d : X) (P : ℕ → X) (old new : List X) (start n : ℕ)
       (λ (from : start ≤ k). subst (λ (i : ℕ). get_or new i d ≡ P i) (let e : start + (k - start) ≡ k = omega arith in e) (inside (k - start) (omega arith)))
       (cases_lt k start)
 
--- the bits of a mask's part
-module _ (valid : List Bool) (start n : ℕ) where
-  pub part_bit : (k : ℕ) → k < n → eqb (bit_at (mask_l (take n (drop start valid))) k) 1 ≡ set_at valid (start + k)
-  part_bit k below = ap (λ (b : ℕ). eqb b 1) (bit_mask_l (chunk start n valid) k) ∙ one_is (get_or (chunk start n valid) k false) ∙ get_or-chunk start n valid k false below
-
-  pub part_short : start + n ≤ length valid → (other : ℕ) → bit_and (mask_l (take n (drop start valid))) other < 2 ^ n
-  part_short room other =
-      let below = subst (λ (m : ℕ). mask_l (chunk start n valid) < 2 ^ m) (length-chunk start n valid room) (mask_l-lt (chunk start n valid)) in
-      let less = and_le_l (mask_l (chunk start n valid)) other in
-      omega arith
-
-  module _ (tests : ℕ) (p : ℕ → Bool) (marked : Marks n tests p) where
-    pub both_bits : (k : ℕ) → k < n → eqb (bit_at (bit_and (mask_l (take n (drop start valid))) tests) k) 1 ≡ (set_at valid (start + k) && p k)
-    both_bits k below = bit_of_and (mask_l (take n (drop start valid))) tests k ∙ ap (λ (b : Bool). b && eqb (bit_at tests k) 1) (part_bit k below) ∙ ap (λ (b : Bool). set_at valid (start + k) && b) (marked k below)
-
-    pub but_bits : n ≤ 16 → tests < 2 ^ 64 → (k : ℕ) → k < n → eqb (bit_at (bit_and (mask_l (take n (drop start valid))) (bit_not w64 tests)) k) 1 ≡ (set_at valid (start + k) && not (p k))
-    but_bits few fits k below = bit_of_and (mask_l (take n (drop start valid))) (bit_not w64 tests) k
-        ∙ ap (λ (b : Bool). b && eqb (bit_at (bit_not w64 tests) k) 1) (part_bit k below)
-        ∙ ap (λ (b : Bool). set_at valid (start + k) && b) (bit_of_not tests k fits (omega arith) ∙ ap not (marked k below))
+-- the bits of a mask's part at which a test does not hold
+module _ (valid : List Bool) (start n : ℕ) (tests : ℕ) (p : ℕ → Bool) (marked : Marks n tests p) where
+  pub but_bits : n ≤ 16 → tests < 2 ^ 64 → (k : ℕ) → k < n → eqb (bit_at (bit_and (mask_l (take n (drop start valid))) (bit_not w64 tests)) k) 1 ≡ (set_at valid (start + k) && not (p k))
+  but_bits few fits k below = bit_of_and (mask_l (take n (drop start valid))) (bit_not w64 tests) k
+      ∙ ap (λ (b : Bool). b && eqb (bit_at (bit_not w64 tests) k) 1) (part_bit valid start n k below)
+      ∙ ap (λ (b : Bool). set_at valid (start + k) && b) (bit_of_not tests k fits (omega arith) ∙ ap not (marked k below))
 
 -- a place that is valid and does not fail
 pub fine_is_sound : (valid failing : Bool) → (valid && not failing) ≡ true → failing ≡ false

@@ -1,3 +1,2 @@
-pub mod Lanes
 pub mod Numbers
-pub mod Totals
+pub mod Steps

@@ -1,38 +1,15 @@
 ghost use Rattle.std.specs.Prelude.{◌≡◌, ℕ, ◌+◌, ◌^◌, ◌<◌, ◌≤◌, Bool, false, true, ◌&&◌, ◌||◌, length, eqb, if◌then◌else◌, Some, None, FitsSigned};
 ghost use Rattle.std.specs.Int.{bit_at, w64};
 ghost use Rattle.num_kernels.specs.Numbers.{IsArithmetic, IsComparison, add, sub, mul, div, mod_of, compares, exact, fails, result_at};
-ghost use Rattle.num_kernels.specs.Lanes.{CanLoad, Holds, IsFine, IsLaneCount, IsPut, Marks, at, set_at};
+ghost use Rattle.num_kernels.specs.Steps.{CanLoad, IsFine, IsPut};
+ghost use Rattle.num_folds.specs.Lanes.{IsLaneCount, Marks, at, set_at};
 ghost use lib.IntN.{pos, negsuc};
 
 use crate::constants::{ADD, DIV, EQ, GE, GT, LE, LT, MUL, NE, SUB};
 use crate::tables::{arith_by, compare_by};
 use bit_masks::Mask;
+use num_folds::long_lanes::{fit, marks};
 use std::simd::prelude::*;
-
-/// Reads the lanes' numbers and does nothing with them: a number that was read is known to fit its type.
-#[inline(always)]
-pub fn fit<const N: usize>(numbers: &[i64], start: usize)
-    requires { start + N ≤ length numbers.now }
-    ensures { (k : ℕ) → k < N → FitsSigned w64 (at numbers.now (start + k)) }
-{
-    for k in 0..N {
-        let _number = numbers[start + k];
-    }
-}
-
-/// The lanes at which a bit is 1.
-#[inline(always)]
-pub fn marks<const N: usize>(bits: u64) -> std::simd::Mask<i64, N>
-    requires { (0 < N) × (N ≤ 16) × (bits < 2 ^ 32) }
-    ensures { Holds N result (λ k. if eqb (bit_at bits k) 1 then negsuc 0 else pos 0) }
-{
-    let mut places = [0u64; N];
-    for k in 0..N {
-        places[k] = 1 << k;
-    }
-    let places = Simd::from_array(places);
-    (Simd::splat(bits) & places).simd_ne(Simd::splat(0))
-}
 
 /// At which lanes a comparison holds.
 #[inline(always)]

@@ -1,5 +1,5 @@
 ghost use Rattle.num_kernels.specs.Numbers.{IsArithmetic, IsComparison};
-ghost use Rattle.num_kernels.specs.Lanes.{IsLaneCount};
+ghost use Rattle.num_folds.specs.Lanes.{IsLaneCount};
 
 use super::*;
 use bit_masks::Mask;
@@ -265,25 +265,5 @@ fn remainders_of_longs(rt: HostRuntime) -> Result<(), Fail> {
     let mut none = Mask::new(rt.alloc(), 0, true)?;
     compare_longs::<LT, 16>(&[], &[], &empty, &mut none);
     assert_eq!(rt; none.len(), 0);
-    Ok(())
-}
-
-#[test]
-fn sums_and_extremes(rt: HostRuntime) -> Result<(), Fail> {
-    let mut valid = Mask::new(rt.alloc(), 6, true)?;
-    let all = Mask::new(rt.alloc(), 6, true)?;
-    let none = Mask::new(rt.alloc(), 6, false)?;
-    valid.set(1, false);
-    let ints = [i32::MAX, 5, i32::MAX, -1, 2, -9];
-    assert_eq!(rt; sum_ints::<4>(&ints, &valid, &all), 4294967286);
-    assert_eq!(rt; sum_ints::<8>(&ints, &valid, &none), 0);
-    assert_eq!(rt; least_ints::<4>(&ints, &valid, &all), Some(-9));
-    assert_eq!(rt; greatest_ints::<4>(&ints, &all, &valid), Some(i32::MAX));
-    assert_eq!(rt; least_ints::<16>(&ints, &none, &all), None);
-    let longs = [i64::MIN, 9, i64::MIN, 0, 7, 1];
-    assert_eq!(rt; sum_longs::<8>(&longs, &valid, &all), -18446744073709551608);
-    assert_eq!(rt; least_longs::<4>(&longs, &valid, &all), Some(i64::MIN));
-    assert_eq!(rt; greatest_longs::<4>(&longs, &valid, &all), Some(7));
-    assert_eq!(rt; greatest_longs::<4>(&longs, &all, &none), None);
     Ok(())
 }

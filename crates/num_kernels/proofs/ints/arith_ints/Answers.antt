@@ -1,8 +1,9 @@
 use Rattle.std.proofs.Common.{◌+◌, ◌^◌, ◌<◌, ℕ, Bool, false, cond, ◌&&◌, ◌∙◌, eqb, sym, ap, subst, arith, bit_and, w32, w64}
 use Rattle.std.specs.Int.{bit_at, bit_not}
 use Rattle.num_kernels.specs.Numbers.{exact, fails, result_at}
-use Rattle.num_kernels.specs.Lanes.{at, set_at}
-use Rattle.num_kernels.proofs.Steps.{some_lanes, few_lanes, in_one_word, next_start, short_bits, lanes_done, part_short, both_bits, but_bits, fine_is_sound}
+use Rattle.num_folds.specs.Lanes.{at, set_at}
+use Rattle.num_folds.proofs.Steps.{some_lanes, few_lanes, in_one_word, next_start, short_bits, part_short, both_bits}
+use Rattle.num_kernels.proofs.Steps.{lanes_done, but_bits, fine_is_sound}
 use lib.IntN.{ℤ, pos}
 use Rattle.num_kernels.proofs.ints.arith_ints.Goals as goal
 

@@ -1,6 +1,6 @@
 use Rattle.std.proofs.Common.{◌≡◌, ℕ, ◌-◌, ◌%◌, ◌<◌, ◌≤◌, ◌&&◌, length, w32}
 use Rattle.num_kernels.specs.Numbers.{fails, result_at}
-use Rattle.num_kernels.specs.Lanes.{at, set_at}
+use Rattle.num_folds.specs.Lanes.{at, set_at}
 use Rattle.num_kernels.proofs.ints.arith_ints.Given as goal
 
 abbrev pub invariant-loop-start : goal.invariant-loop-start

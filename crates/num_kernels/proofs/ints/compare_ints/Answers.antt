@@ -1,8 +1,9 @@
 use Rattle.std.proofs.Common.{◌+◌, ◌^◌, ◌<◌, ℕ, Bool, false, ◌&&◌, ◌∙◌, eqb, sym, ap, subst, arith, bit_and}
 use Rattle.std.specs.Int.{bit_at}
 use Rattle.num_kernels.specs.Numbers.{compares}
-use Rattle.num_kernels.specs.Lanes.{at, set_at}
-use Rattle.num_kernels.proofs.Steps.{some_lanes, few_lanes, in_one_word, next_start, lanes_done, part_short, both_bits}
+use Rattle.num_folds.specs.Lanes.{at, set_at}
+use Rattle.num_folds.proofs.Steps.{some_lanes, few_lanes, in_one_word, next_start, part_short, both_bits}
+use Rattle.num_kernels.proofs.Steps.{lanes_done}
 use Rattle.num_kernels.proofs.ints.compare_ints.Goals as goal
 
 pub compare_lanes-holding-requires : goal.compare_lanes-holding-requires

@@ -1,9 +1,10 @@
 use Rattle.std.proofs.Common.{◌≡◌, ◌+◌, ◌≤◌, ℕ, not, ◌∙◌, eqb, sym, ap, arith, w32}
 use Rattle.std.specs.Int.RustNames.{int_lt, int_le}
 use Rattle.num_kernels.specs.Numbers.{compares}
-use Rattle.num_kernels.specs.Lanes.{at}
-use Rattle.num_kernels.proofs.Lanes.{lane_bit, lane_loaded}
-use Rattle.num_kernels.proofs.Numbers.{lt_is, le_is, eq_is_32}
+use Rattle.num_folds.specs.Lanes.{at}
+use Rattle.num_folds.proofs.Lanes.{lane_bit, lane_loaded}
+use Rattle.num_folds.proofs.Lanes.{lt_is}
+use Rattle.num_kernels.proofs.Numbers.{le_is, eq_is_32}
 use mir.Val.{to_z}
 use Rattle.num_kernels.proofs.ints.compare_lanes.Goals as goal
 

@@ -1,7 +1,7 @@
 use Rattle.std.proofs.Common.{rules, ◌≡◌, ℕ, List, Bool, false, ◌&&◌, ◌∙◌, ap, arith, length, w32, length-set}
 use Rattle.std.proofs.lemmas.Int.{to_z-of_z}
 use Rattle.num_kernels.specs.Numbers.{compares}
-use Rattle.num_kernels.specs.Lanes.{at, set_at}
+use Rattle.num_folds.specs.Lanes.{at, set_at}
 use Rattle.num_kernels.proofs.Steps.{set_done, set_kept}
 use lib.IntN.{ℤ}
 use mir.Val.{SFits, of_z, to_z}

@@ -1,6 +1,6 @@
 use Rattle.std.proofs.Common.{◌≡◌, ℕ, ◌<◌, ◌≤◌, ◌&&◌, length}
 use Rattle.num_kernels.specs.Numbers.{compares}
-use Rattle.num_kernels.specs.Lanes.{at, set_at}
+use Rattle.num_folds.specs.Lanes.{at, set_at}
 use Rattle.num_kernels.proofs.ints.compare_rest.Given as goal
 
 abbrev pub invariant-loop-place : goal.invariant-loop-place

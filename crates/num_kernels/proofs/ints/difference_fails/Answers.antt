@@ -1,7 +1,8 @@
 use Rattle.std.proofs.Common.{◌+◌, ◌-◌, ◌%◌, ◌^◌, ◌≤◌, ◌∙◌, arith, w32}
 use Rattle.std.specs.Int.RustNames.{int_lt}
-use Rattle.num_kernels.specs.Lanes.{at}
-use Rattle.num_kernels.proofs.Lanes.{lane_bit, lane_loaded, lane_splat, lane_zip, xor_bits}
+use Rattle.num_folds.specs.Lanes.{at}
+use Rattle.num_folds.proofs.Lanes.{lane_bit, lane_loaded, lane_splat, lane_zip}
+use Rattle.num_kernels.proofs.Bits.{xor_bits}
 use Rattle.num_kernels.proofs.Numbers.{difference_fails_32}
 use mir.Val.{to_z}
 use Rattle.num_kernels.proofs.ints.difference_fails.Goals as goal

@@ -1,7 +1,8 @@
 use Rattle.std.proofs.Common.{◌+◌, ◌*◌, ◌%◌, ◌^◌, ◌≤◌, ◌∙◌, arith, w32, w64}
 use Rattle.std.specs.Int.RustNames.{int_lt}
-use Rattle.num_kernels.specs.Lanes.{at}
-use Rattle.num_kernels.proofs.Lanes.{lane_bit, lane_loaded, lane_splat, lane_zip, lane_map, or_bits}
+use Rattle.num_folds.specs.Lanes.{at}
+use Rattle.num_folds.proofs.Lanes.{lane_bit, lane_loaded, lane_splat, lane_zip, lane_map}
+use Rattle.num_kernels.proofs.Bits.{or_bits}
 use Rattle.num_kernels.proofs.Numbers.{product_fails_32}
 use mir.Val.{of_z, to_z}
 use Rattle.num_kernels.proofs.ints.product_fails.Goals as goal

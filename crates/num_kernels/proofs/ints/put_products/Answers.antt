@@ -1,9 +1,10 @@
 use Rattle.std.proofs.Common.{◌+◌, ◌*◌, ◌%◌, ◌^◌, eqb, w32}
 use Rattle.std.specs.Int.{bit_at}
-use Rattle.num_kernels.specs.Lanes.{at}
-use Rattle.num_kernels.proofs.Lanes.{lane_loaded, lane_splat, lane_zip}
+use Rattle.num_folds.specs.Lanes.{at}
+use Rattle.num_folds.proofs.Lanes.{lane_loaded, lane_splat, lane_zip}
 use Rattle.num_kernels.proofs.Numbers.{product_value}
-use Rattle.num_kernels.proofs.Puts.{lane_pick, chosen_value, put_is}
+use Rattle.num_folds.proofs.Marks.{lane_pick, chosen_value}
+use Rattle.num_kernels.proofs.Puts.{put_is}
 use Rattle.std.proofs.lemmas.Bool.{not-false}
 use lib.IntN.{◌*ℤ◌}
 use Rattle.num_kernels.proofs.ints.put_products.Goals as goal

@@ -1,9 +1,10 @@
 use Rattle.std.proofs.Common.{◌≡◌, ◌+◌, ◌-◌, ◌^◌, ◌<◌, true, eqb, arith, w32}
 use Rattle.std.specs.Int.{bit_at}
-use Rattle.num_kernels.specs.Lanes.{at}
-use Rattle.num_kernels.proofs.Lanes.{lane_loaded, lane_splat, lane_zip, lane_select}
+use Rattle.num_folds.specs.Lanes.{at}
+use Rattle.num_folds.proofs.Lanes.{lane_loaded, lane_splat, lane_zip, lane_select}
 use Rattle.num_kernels.proofs.Quotients.{remainder_asks, remainder_value}
-use Rattle.num_kernels.proofs.Puts.{lane_pick, each_lanes, put_is}
+use Rattle.num_folds.proofs.Marks.{lane_pick}
+use Rattle.num_kernels.proofs.Puts.{each_lanes, put_is}
 use Rattle.std.specs.Int.RustNames.{int_rem}
 use mir.Val.{of_z, to_z}
 use Rattle.num_kernels.proofs.ints.put_remainders.Goals as goal

@@ -1,6 +1,6 @@
 use Rattle.std.proofs.Common.{◌+◌, ◌≤◌, ◌∙◌, eqb, arith, w32}
-use Rattle.num_kernels.specs.Lanes.{at}
-use Rattle.num_kernels.proofs.Lanes.{lane_bit, lane_loaded, lane_splat}
+use Rattle.num_folds.specs.Lanes.{at}
+use Rattle.num_folds.proofs.Lanes.{lane_bit, lane_loaded, lane_splat}
 use Rattle.num_kernels.proofs.Quotients.{remainder_fails_is}
 use Rattle.num_kernels.proofs.ints.remainder_fails.Goals as goal
 

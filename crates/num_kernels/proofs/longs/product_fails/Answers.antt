@@ -2,7 +2,7 @@ use Rattle.std.proofs.Common.{◌≡◌, ◌+◌, ◌^◌, ◌<◌, ℕ, Bool, c
 use Rattle.std.proofs.lemmas.Int.{to_z-of_z}
 use Rattle.std.specs.Int.{bit_at}
 use Rattle.num_kernels.specs.Numbers.{mul, fails}
-use Rattle.num_kernels.specs.Lanes.{at}
+use Rattle.num_folds.specs.Lanes.{at}
 use Rattle.num_kernels.proofs.Steps.{mark_done, mark_ahead}
 use lib.IntN.{ℤ}
 use mir.Val.{of_z, to_z}

@@ -1,7 +1,7 @@
 use Rattle.std.proofs.Common.{◌≡◌, ℕ, ◌+◌, ◌<◌, ◌≤◌, eqb, w64}
 use Rattle.std.specs.Int.{bit_at}
 use Rattle.num_kernels.specs.Numbers.{fails, mul}
-use Rattle.num_kernels.specs.Lanes.{at}
+use Rattle.num_folds.specs.Lanes.{at}
 use Rattle.num_kernels.proofs.longs.product_fails.Given as goal
 
 abbrev pub invariant-loop-k : goal.invariant-loop-k

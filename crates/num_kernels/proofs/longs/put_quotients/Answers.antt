@@ -1,9 +1,10 @@
 use Rattle.std.proofs.Common.{◌≡◌, ◌+◌, ◌-◌, ◌^◌, ◌<◌, true, eqb, arith, w64}
 use Rattle.std.specs.Int.{bit_at}
-use Rattle.num_kernels.specs.Lanes.{at}
-use Rattle.num_kernels.proofs.Lanes.{lane_loaded, lane_splat, lane_zip}
+use Rattle.num_folds.specs.Lanes.{at}
+use Rattle.num_folds.proofs.Lanes.{lane_loaded, lane_splat, lane_zip}
 use Rattle.num_kernels.proofs.Quotients.{quotient_asks, quotient_value}
-use Rattle.num_kernels.proofs.Puts.{lane_pick, each_lanes, put_is}
+use Rattle.num_folds.proofs.Marks.{lane_pick}
+use Rattle.num_kernels.proofs.Puts.{each_lanes, put_is}
 use Rattle.std.specs.Int.RustNames.{int_div}
 use mir.Val.{of_z, to_z}
 use Rattle.num_kernels.proofs.longs.put_quotients.Goals as goal

@@ -1,6 +1,7 @@
 use Rattle.std.proofs.Common.{◌+◌, ◌≤◌, ◌∙◌, eqb, arith, w64}
-use Rattle.num_kernels.specs.Lanes.{at}
-use Rattle.num_kernels.proofs.Lanes.{lane_bit, lane_loaded, lane_splat, or_bits, and_bits}
+use Rattle.num_folds.specs.Lanes.{at}
+use Rattle.num_folds.proofs.Lanes.{lane_bit, lane_loaded, lane_splat, and_bits}
+use Rattle.num_kernels.proofs.Bits.{or_bits}
 use Rattle.num_kernels.proofs.Quotients.{quotient_fails_is}
 use Rattle.num_kernels.proofs.longs.quotient_fails.Goals as goal
 

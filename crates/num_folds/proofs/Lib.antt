@@ -1,0 +1,5 @@
+pub mod Extremes
+pub mod Lanes
+pub mod Marks
+pub mod Steps
+pub mod Totals

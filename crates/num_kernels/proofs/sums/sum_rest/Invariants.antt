@@ -1,5 +1,0 @@
-use Rattle.num_kernels.specs.Totals.{IsTotal, kept_at}
-use Rattle.num_kernels.proofs.sums.sum_rest.Given as goal
-
-abbrev pub invariant-loop-place : goal.invariant-loop-place
-invariant-loop-place l = IsTotal 31 (kept_at l.values l.valid l.keep) l.place l.sum
