@@ -10,3 +10,5 @@ mod Loads
 mod Shaped
 mod Loadable
 mod LineLaws
+mod Sorted
+mod OneMapping

@@ -5,6 +5,7 @@ mod accept;
 mod cause;
 mod column;
 mod document;
+mod laws;
 mod leaf;
 mod lines;
 mod mapping;
@@ -17,6 +18,7 @@ mod whole;
 
 pub use cause::{LoadError, MappingCause, MappingError, RowCause};
 pub use column::MappedColumn;
+pub use laws::{no_mapping_fault, one_mapping, one_mapping_fault};
 pub use mapping::read_mapping;
 pub use table::{Table, load_table};
 pub use whole::{MAX_FILE, ReadError, read_whole};
