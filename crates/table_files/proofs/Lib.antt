@@ -1,4 +1,5 @@
 mod Gathered
 mod Named
+mod OneCatalog
 mod Pushed
 mod Rowed

@@ -2,6 +2,7 @@
 #![tactic(auto)]
 
 mod gathering;
+mod laws;
 mod loading;
 mod messages;
 mod stop;
@@ -9,5 +10,6 @@ mod stop;
 mod tests;
 
 pub use gathering::gather;
+pub use laws::{one_gathering, one_loading};
 pub use loading::load;
 pub use stop::{Stop, TableSource};
