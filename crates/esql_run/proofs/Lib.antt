@@ -1,5 +1,6 @@
 mod Ends
 mod Froms
+mod OneFrom
 mod OneOutcome
 mod Queries
 mod RowCells

@@ -1,5 +1,5 @@
 -- Words have at most one outcome.
-use Rattle.std.proofs.Common.{false, Bool, ◌≡◌, inl, inr, ℕ, ◌<◌, List, [], ◌∷◌, length, slice_get, Some, refl, sym, ap, ◌∙◌, subst, arith}
+use Rattle.std.proofs.Common.{true, false, Bool, ◌≡◌, inl, inr, ℕ, ◌<◌, List, [], ◌∷◌, length, slice_get, Some, None, refl, sym, ap, ◌∙◌, subst, arith}
 use Rattle.esql_lex.specs.declared.error.LexError.{LexError}
 use Rattle.esql_lex.specs.declared.error.LexError.TheVariants as fault
 use Rattle.esql_lex.specs.declared.token.Token.{Token}
@@ -10,10 +10,12 @@ use Rattle.esql_parse.specs.declared.error.ParseError.TheVariants.{Unexpected, T
 use Rattle.esql_parse.specs.Spells.{Spells, Refuses}
 use Rattle.answer_text.specs.Messages.{longer_than_limit, unexpected_character, not_closed, unknown_escape, comment_not_closed, number_too_large, nested_too_deep, too_many_commands}
 use Rattle.esql_io.specs.Files.{Held}
+use Rattle.table_files.specs.Catalog.{BytesOf}
 use Rattle.esql_run.specs.Bytes.{Outcome, refused}
-use Rattle.esql_run.specs.From.{is_one_table}
-use Rattle.esql_run.specs.Outcome.{IsQuery, IsAnswer, IsOutcome, AnswersBy, AnswersQuery, ReadsNoFile, outcome_of}
+use Rattle.esql_run.specs.From.{is_one_table, names_of, span_of}
+use Rattle.esql_run.specs.Outcome.{IsQuery, IsAnswer, IsOutcome, AnswersBy, AnswersQuery, ReadsKnown, outcome_of}
 use Rattle.esql_run.specs.Unread.{IsNoQuery, too_long, bad_character, open_string, bad_escape, open_comment, wide_number, unexpected, too_deep, too_many, HasFault, HasRefusal, unexpected_kind}
+use Rattle.esql_run.proofs.OneFrom.{TableLaws, one_from}
 
 -- where a fault stands, and what is said of it
 abbrev fault_at : LexError → ℕ
@@ -62,7 +64,7 @@ reason (unexpected number token has) = by_refusal (Unexpected number) token has 
 reason (too_deep number token has) = by_refusal (TooDeep number) token has refl refl
 reason (too_many number token has) = by_refusal (TooMany number) token has refl refl
 
--- the laws of tokens and of the grammar
+-- the laws of tokens, of the grammar and of tables
 pub record Laws : Type 0 where
   pub one_list : (text : List ℕ) (tokens others : List Token) → Tokens text tokens → Tokens text others → tokens ≡ others
   pub one_fault : (text : List ℕ) (error other : LexError) → LexFault text error → LexFault text other → error ≡ other
@@ -70,6 +72,7 @@ pub record Laws : Type 0 where
   pub one_query : (text : List ℕ) (tokens : List Token) (query other : Query) → Spells text tokens query → Spells text tokens other → query ≡ other
   pub one_refusal : (text : List ℕ) (tokens : List Token) (error other : ParseError) → Refuses text tokens error → Refuses text tokens other → error ≡ other
   pub no_refusal : (text : List ℕ) (tokens : List Token) (query : Query) (error : ParseError) → Spells text tokens query → Refuses text tokens error → ⊥
+  pub tables : TableLaws
 
 some_same : {A : Type 0} {a b : A} → Some a ≡ Some b → a ≡ b
 some_same e = cc
@@ -108,27 +111,37 @@ no_reason laws text query at message is (by_refusal e t has a b) =
     let tokens : is.tokens ≡ has.tokens = laws.one_list text is.tokens has.tokens is.lexed has.lexed in
     laws.no_refusal text has.tokens query e (subst (λ ts. Spells text ts query) tokens is.spelled) has.refuses
 
+-- over files that tell what they hold, a query has one answer
+one_by : (laws : Laws) (one_table : Bool) (text : List ℕ) (held : BytesOf) (query : Query) (outcome other : Outcome) → AnswersBy one_table text (Some held) query outcome
+    → AnswersBy one_table text (Some held) query other → outcome ≡ other
+one_by laws true text held query outcome other is was = one_from laws.tables held text (span_of query.source) (names_of query.source) outcome other is was
+one_by laws false text held query outcome other is was = is ∙ sym was
+
+-- so has one for which no file is read
 by_forms : (text : List ℕ) (held : Held) (query : Query) (outcome : Outcome) → is_one_table query ≡ false → AnswersQuery text held query outcome → outcome ≡ outcome_of text query
 by_forms text held query outcome none is =
     subst (λ (b : Bool). AnswersBy b text held query outcome) none is
+
+same_answer : (laws : Laws) (text : List ℕ) (held : Held) (query : Query) (outcome other : Outcome) → ReadsKnown (text ∷ []) held → IsQuery text query → AnswersQuery text held query outcome
+    → AnswersQuery text held query other → outcome ≡ other
+same_answer laws text (Some held) query outcome other known is a b = one_by laws (is_one_table query) text held query outcome other a b
+same_answer laws text None query outcome other known is a b = by_forms text None query outcome (known query is) a ∙ sym (by_forms text None query other (known query is) b)
 
 same_query : (laws : Laws) (text : List ℕ) (query other : Query) → IsQuery text query → IsQuery text other → query ≡ other
 same_query laws text query other is was =
     let tokens : is.tokens ≡ was.tokens = laws.one_list text is.tokens was.tokens is.lexed was.lexed in
     laws.one_query text was.tokens query other (subst (λ ts. Spells text ts query) tokens is.spelled) was.spelled
 
--- no file is read for the query of the words, if they have one
-pub one_answer : (laws : Laws) (text : List ℕ) (held : Held) (outcome other : Outcome) → ReadsNoFile text → IsAnswer text held outcome → IsAnswer text held other → outcome ≡ other
-one_answer laws text held outcome other reads (inl (query, is, e)) (inl (query2, was, f)) =
-    by_forms text held query outcome (reads query is) e ∙ ap (outcome_of text) (same_query laws text query query2 is was) ∙ sym (by_forms text held query2 other (reads query2 was) f)
-one_answer laws text held outcome other reads (inl (query, is, e)) (inr (at, message, none, f)) = absurd (no_reason laws text query at message is (reason none))
-one_answer laws text held outcome other reads (inr (at, message, none, e)) (inl (query, was, f)) = absurd (no_reason laws text query at message was (reason none))
-one_answer laws text held outcome other reads (inr (at, message, none, e)) (inr (place, words, also, f)) =
+pub one_answer : (laws : Laws) (text : List ℕ) (held : Held) (outcome other : Outcome) → ReadsKnown (text ∷ []) held → IsAnswer text held outcome → IsAnswer text held other → outcome ≡ other
+one_answer laws text held outcome other known (inl (query, is, a)) (inl (query2, was, b)) =
+    same_answer laws text held query outcome other known is a (subst (λ (q : Query). AnswersQuery text held q other) (sym (same_query laws text query query2 is was)) b)
+one_answer laws text held outcome other known (inl (query, is, a)) (inr (at, message, none, f)) = absurd (no_reason laws text query at message is (reason none))
+one_answer laws text held outcome other known (inr (at, message, none, e)) (inl (query, was, b)) = absurd (no_reason laws text query at message was (reason none))
+one_answer laws text held outcome other known (inr (at, message, none, e)) (inr (place, words, also, f)) =
     let same = one_reason laws text at place message words (reason none) (reason also) in
     e ∙ ap (λ (p : ℕ). refused text p message) same.0 ∙ ap (refused text place) same.1 ∙ sym f
 
-pub one_outcome : (laws : Laws) (words : List (List ℕ)) (held : Held) (outcome other : Outcome) → ((text : List ℕ) → words ≡ text ∷ [] → ReadsNoFile text)
-    → IsOutcome words held outcome → IsOutcome words held other → outcome ≡ other
-one_outcome laws [] held outcome other reads e f = e ∙ sym f
-one_outcome laws (text ∷ []) held outcome other reads a b = one_answer laws text held outcome other (reads text refl) a b
-one_outcome laws (first ∷ second ∷ words) held outcome other reads e f = e ∙ sym f
+pub one_outcome : (laws : Laws) (words : List (List ℕ)) (held : Held) (outcome other : Outcome) → ReadsKnown words held → IsOutcome words held outcome → IsOutcome words held other → outcome ≡ other
+one_outcome laws [] held outcome other known e f = e ∙ sym f
+one_outcome laws (text ∷ []) held outcome other known a b = one_answer laws text held outcome other known a b
+one_outcome laws (first ∷ second ∷ words) held outcome other known e f = e ∙ sym f

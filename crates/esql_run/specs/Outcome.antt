@@ -1,5 +1,5 @@
 -- What the program answers to its words: a status, and the bytes of its output and of its error stream.
-use Rattle.std.specs.Prelude.{◌≡◌, Bool, true, false, ◌⊎◌, ℕ, ◌≤◌, List, [], ◌∷◌, length, map, Result, Ok, Err}
+use Rattle.std.specs.Prelude.{◌≡◌, Bool, true, false, ◌⊎◌, ℕ, ◌≤◌, List, [], ◌∷◌, length, map, Some, None, Result, Ok, Err}
 use Rattle.esql_io.specs.Files.{Held}
 use Rattle.esql_types.specs.declared.places.Span.{Span}
 use Rattle.esql_types.specs.declared.names.Column.{Column}
@@ -78,6 +78,13 @@ IsOutcome (first ∷ second ∷ words) held outcome = outcome ≡ wrong_words
 -- no file is read for the query of the text, if it has one
 abbrev pub ReadsNoFile : List ℕ → Type 0
 ReadsNoFile text = (query : Query) → IsQuery text query → is_one_table query ≡ false
+
+-- what is read for the words is known: the files tell what they hold, or no file is read for the query of the words
+abbrev pub ReadsKnown : List (List ℕ) → Held → Type 0
+ReadsKnown words (Some held) = Unit {0}
+ReadsKnown [] None = Unit {0}
+ReadsKnown (text ∷ []) None = ReadsNoFile text
+ReadsKnown (first ∷ second ∷ words) None = Unit {0}
 
 -- the file is the mapping or the rows of a table that the query of the text names
 abbrev pub IsFileFor : List ℕ → List ℕ → Type 0

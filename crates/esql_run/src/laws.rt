@@ -1,14 +1,16 @@
-ghost use Rattle.std.specs.Prelude.{◌≡◌, [], ◌∷◌, ℕ, List};
+ghost use Rattle.std.specs.Prelude.{◌≡◌, ℕ, List};
 ghost use Rattle.esql_io.specs.Files.{Held};
 ghost use Rattle.esql_run.specs.Bytes.{Outcome};
-ghost use Rattle.esql_run.specs.Outcome.{IsOutcome, ReadsNoFile};
+ghost use Rattle.esql_run.specs.Outcome.{IsOutcome, ReadsKnown};
 
 use esql_lex::{not_both, one_fault, one_list};
 use esql_parse::{no_refusal, one_query, one_refusal};
+use table_files::{one_gathering, one_loading};
 
-/// A law: words for whose query no file is read have at most one outcome, so that what `run` tells is the only answer.
+/// A law: words have at most one outcome where the files tell what they hold, or no file is read for their query, so that
+/// what `run` tells is the only answer.
 pub fn one_outcome()
-    ensures { (words : List (List ℕ)) (held : Held) (outcome other : Outcome) → ((text : List ℕ) → words ≡ text ∷ [] → ReadsNoFile text)
+    ensures { (words : List (List ℕ)) (held : Held) (outcome other : Outcome) → ReadsKnown words held
         → IsOutcome words held outcome → IsOutcome words held other → outcome ≡ other }
 {
     one_list();
@@ -17,4 +19,6 @@ pub fn one_outcome()
     one_query();
     one_refusal();
     no_refusal();
+    one_gathering();
+    one_loading();
 }

@@ -9,4 +9,5 @@ returns c = one_outcome (record {
   one_query = c.one_query.ensures;
   one_refusal = c.one_refusal.ensures;
   no_refusal = c.no_refusal.ensures;
+  tables = record { one_gathering = c.one_gathering.ensures; one_loading = c.one_loading.ensures };
 })
