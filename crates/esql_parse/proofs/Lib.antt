@@ -3,6 +3,7 @@ pub mod Apart
 pub mod Bodies
 pub mod Columns
 pub mod Commands
+pub mod DepthOfQuery
 pub mod Enders
 pub mod Fields
 pub mod Fits

@@ -3,3 +3,4 @@ pub mod Limits
 pub mod Machine
 pub mod Refusals
 pub mod Spells
+pub mod WithinLimits

@@ -10,9 +10,10 @@ ghost use Rattle.esql_parse.specs.Grammar.{SpellsQuery};
 ghost use Rattle.esql_parse.specs.Limits.{GoesOn, Leaves, written_of};
 ghost use Rattle.esql_parse.specs.Machine.{need};
 ghost use Rattle.esql_parse.specs.Spells.{Spells, lexemes_of, IsWantOfMemory, Refuses, IsQueryOrMemory, IsRefusalOrMemory, NamesToken};
+ghost use Rattle.esql_parse.specs.WithinLimits.{IsWithinLimits};
 
 use crate::{ParseError, State, Written};
-use esql_ast::{Query, numbered_query, numbers_in_order};
+use esql_ast::{Query, numbered_query, numbering_keeps_depth, numbers_in_order};
 use esql_commands::Inside;
 use esql_lex::Token;
 use esql_phrases::{Lexeme, lexeme_of};
@@ -88,8 +89,10 @@ pub fn parse(alloc: Global, text: &str, tokens: &Seq<Token>) -> Result<Query, Pa
     ensures refusal { (error : ParseError) → Refuses text.now tokens.now error → IsRefusalOrMemory result error }
     ensures fit { IfOk result (QueryFits text.now) }
     ensures numbered { IfOk result IsNumbered }
+    ensures within { IfOk result IsWithinLimits }
     ensures place { IfErr result (NamesToken tokens.now) }
 {
     numbers_in_order();
+    numbering_keeps_depth();
     parsed(alloc, text, tokens)
 }

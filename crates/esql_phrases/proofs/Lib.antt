@@ -1,4 +1,5 @@
 pub mod Begins
+pub mod DepthOfTree
 pub mod Fits
 pub mod Spans
 pub mod Stands

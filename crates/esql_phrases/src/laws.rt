@@ -1,4 +1,5 @@
 ghost use Rattle.std.specs.Prelude.{◌≡◌, ℕ, List};
+ghost use Rattle.esql_ast.specs.Depths.{depth_of_expr};
 ghost use Rattle.esql_ast.specs.Fits.{ExprFits};
 ghost use Rattle.esql_phrases.specs.declared.lexeme.Lexeme.{Lexeme};
 ghost use Rattle.esql_phrases.specs.declared.part.Part.{Part};
@@ -16,4 +17,9 @@ pub fn from_first_to_last()
 /// A law: where lexemes stand in a text one after another, the spans of the expression that they spell are parts of the text.
 pub fn spans_fit()
     ensures { (text : List ℕ) (line : ℕ) (lexemes : List Lexeme) (part : Part) → Phrase line lexemes part → Stands text lexemes → ExprFits text part.expr }
+{}
+
+/// A law: the depth that the grammar gives an expression is that of its tree.
+pub fn depth_of_phrase()
+    ensures { (line : ℕ) (lexemes : List Lexeme) (part : Part) → Phrase line lexemes part → part.depth ≡ depth_of_expr part.expr }
 {}

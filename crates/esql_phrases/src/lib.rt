@@ -9,7 +9,7 @@ mod parts;
 #[cfg(test)]
 mod tests;
 
-pub use laws::{from_first_to_last, spans_fit};
+pub use laws::{depth_of_phrase, from_first_to_last, spans_fit};
 pub use lexeme::{Lexeme, span_at};
 pub use lexemes::lexeme_of;
 pub use part::Part;
