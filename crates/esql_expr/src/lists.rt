@@ -77,22 +77,20 @@ pub(crate) fn close_call(
     }
 }
 
-pub(crate) fn close_within(
+// After an item that is already among the others.
+fn end_item(
     alloc: Global,
     next: Lexeme,
     least: u8,
     mut above: Stack<Frame>,
     negated: bool,
     left: Part,
-    mut items: Seq<Expr>,
+    items: Seq<Expr>,
     depth: u32,
-    part: Part,
 ) -> Result<Stepped, AllocError>
-    requires { max left.depth (max depth part.depth) < 4294967295 }
-    ensures { IfOk result (λ stepped. stepped ≡ close_within next least above negated left (items ++ part.expr ∷ []) (max depth part.depth)) }
+    requires { max left.depth depth < 4294967295 }
+    ensures { IfOk result (λ stepped. stepped ≡ close_within next least above negated left items depth) }
 {
-    let depth = depth.max(part.depth);
-    items.push(part.expr)?;
     match next {
         Lexeme::Sign {
             sign: Sign::Comma,
@@ -115,4 +113,23 @@ pub(crate) fn close_within(
         }
         _ => Ok(Stepped::Stuck),
     }
+}
+
+pub(crate) fn close_within(
+    alloc: Global,
+    next: Lexeme,
+    least: u8,
+    above: Stack<Frame>,
+    negated: bool,
+    left: Part,
+    mut items: Seq<Expr>,
+    depth: u32,
+    part: Part,
+) -> Result<Stepped, AllocError>
+    requires { max left.depth (max depth part.depth) < 4294967295 }
+    ensures { IfOk result (λ stepped. stepped ≡ close_within next least above negated left (items ++ part.expr ∷ []) (max depth part.depth)) }
+{
+    let depth = depth.max(part.depth);
+    items.push(part.expr)?;
+    end_item(alloc, next, least, above, negated, left, items, depth)
 }
