@@ -98,9 +98,9 @@ lanes_total lanes f n long few each fit =
     ∙ int_wrap_fits w64 (total f n) fits in
     record { is = is; small = subst (λ (z : ℤ). unsigned_abs z ≤ n * 2 ^ 31) (sym is) small }
 
-pub kept_fits : (b : Bool) (x : ℤ) → SFits w32 x → SFits w32 (cond b x (pos 0))
-kept_fits true x fits = fits
-kept_fits false x fits = record { sfits = omega arith }
+pub kept_fits : (w : Width) (b : Bool) (x : ℤ) → SFits w x → SFits w (cond b x (pos 0))
+kept_fits w true x fits = fits
+kept_fits w false x fits = record { sfits = pow_pos (hbits w) }
 
 pub kept_value : (w : Width) (valid keep : Bool) (x value : ℤ) → SFits w x → value ≡ cond (valid && keep) (to_z w (of_z w x)) (pos 0) → value ≡ cond (valid && keep) x (pos 0)
 kept_value w valid keep x value fits is = is ∙ ap (λ (z : ℤ). cond (valid && keep) z (pos 0)) (to_z-of_z w x fits)

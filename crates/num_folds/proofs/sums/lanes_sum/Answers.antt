@@ -22,4 +22,4 @@ returns g c =
     (lane_pick below w32 c.marks.result (bit k) marked.long (marked.each k below) (lane_loaded below w32 values start c.requires.2) (lane_splat below 0)) in
     lanes_total _ f n (lane 0 c.requires.0).long c.requires.1
     (λ k below. (lane k below).is ∙ ap (of_z w64) (chosen_value w32 (bit k) (of_z w32 (at values (start + k))) (at values (start + k)) (λ is. to_z-of_z w32 _ (fits k below))))
-    (λ k below. kept_fits (bit k) (at values (start + k)) (fits k below))
+    (λ k below. kept_fits w32 (bit k) (at values (start + k)) (fits k below))

@@ -7,10 +7,10 @@ use Rattle.num_folds.proofs.Totals.{total_one, sum_fits, few_fit, kept_value, ke
 use lib.IntN.{ℤ, pos, ◌+ℤ◌}
 use mir.Syntax.{w128}
 use mir.Val.{SFits, of_z, to_z}
-use Rattle.num_folds.proofs.sums.sum_longs.Goals as goal
+use Rattle.num_folds.proofs.sums.sum_long_rest.Goals as goal
 
 pub loop-place-preserved : goal.loop-place-preserved
-loop-place-preserved g c =
+loop-place-preserved c =
     let place = c.loop-place.place in
     let valid = c.args.valid.now in
     let keep = c.args.keep.now in
