@@ -31,6 +31,7 @@ pub trait Files {
         ensures opened { IfOk result (λ found. opened self.new ≡ (if found then Some name.now else None)) }
         ensures whole { IfOk result (λ found. left self.new ≡ whole_of (holds self.old) name.now) }
         ensures kept { OnOk result (failed self.new ≡ failed self.old) }
+        ensures uncounted { OnOk result (faults self.new ≡ faults self.old) }
         ensures rose { OnErr result (Rose (faults self.old) (faults self.new)) }
         ensures closed { OnErr result (opened self.new ≡ None) }
         ensures nothing { OnErr result (left self.new ≡ nothing_left (holds self.old)) }
@@ -46,6 +47,7 @@ pub trait Files {
         ensures moved { IfOk result (λ count. left self.new ≡ option_map (drop count) (left self.old)) }
         ensures same { OnOk result (opened self.new ≡ opened self.old) }
         ensures kept { OnOk result (failed self.new ≡ failed self.old) }
+        ensures uncounted { OnOk result (faults self.new ≡ faults self.old) }
         ensures rose { OnErr result (Rose (faults self.old) (faults self.new)) }
         ensures closed { OnErr result (opened self.new ≡ None) }
         ensures nothing { OnErr result (left self.new ≡ nothing_left (holds self.old)) }

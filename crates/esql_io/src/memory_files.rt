@@ -172,6 +172,7 @@ impl Files for MemoryFiles {
         ensures opened { IfOk result (λ found. self.new.opened ≡ (if found then Some name.now else None)) }
         ensures whole { IfOk result (λ found. Some self.new.left ≡ whole_of (Some (held_in self.old.files)) name.now) }
         ensures kept { OnOk result (self.new.failed ≡ self.old.failed) }
+        ensures uncounted { OnOk result (self.new.faults ≡ self.old.faults) }
         ensures rose { OnErr result (Rose self.old.faults self.new.faults) }
         ensures closed { OnErr result (self.new.opened ≡ None) }
         ensures nothing { OnErr result (Some self.new.left ≡ nothing_left (Some (held_in self.old.files))) }
@@ -180,7 +181,18 @@ impl Files for MemoryFiles {
         ensures faults { self.old.faults ≤ self.new.faults }
         ensures failing { OnErr result (is_failing self.old ≡ true) }
         ensures working { OnOk result (is_failing self.old ≡ false) }
-        ensures numbered { self.new.calls ≡ next_count self.old.calls }
+        ensures after_ok { IfOk result (λ found. self.new ≡ record self.old {
+          calls = next_count self.old.calls;
+          opened = if found then Some name.now else None;
+          left = unwrap_or (held_in self.old.files name.now) [];
+        }) }
+        ensures after_err { OnErr result (self.new ≡ record self.old {
+          calls = next_count self.old.calls;
+          faults = next_count self.old.faults;
+          opened = None;
+          left = [];
+          failed = name.now;
+        }) }
     {
         let fails = self.fails();
         self.calls = self.calls.saturating_add(1);
@@ -206,6 +218,7 @@ impl Files for MemoryFiles {
         ensures moved { IfOk result (λ count. Some self.new.left ≡ option_map (drop count) (Some self.old.left)) }
         ensures same { OnOk result (self.new.opened ≡ self.old.opened) }
         ensures kept { OnOk result (self.new.failed ≡ self.old.failed) }
+        ensures uncounted { OnOk result (self.new.faults ≡ self.old.faults) }
         ensures rose { OnErr result (Rose self.old.faults self.new.faults) }
         ensures closed { OnErr result (self.new.opened ≡ None) }
         ensures nothing { OnErr result (Some self.new.left ≡ nothing_left (Some (held_in self.old.files))) }
@@ -215,7 +228,17 @@ impl Files for MemoryFiles {
         ensures failing { OnErr result (is_failing self.old ≡ true) }
         ensures exact { IfOk result (λ count.
             (is_failing self.old ≡ false) × (count ≡ read_count self.old (length into.old))) }
-        ensures numbered { self.new.calls ≡ next_count self.old.calls }
+        ensures after_ok { IfOk result (λ count. self.new ≡ record self.old {
+          calls = next_count self.old.calls;
+          left = drop count self.old.left;
+        }) }
+        ensures after_err { OnErr result (self.new ≡ record self.old {
+          calls = next_count self.old.calls;
+          faults = next_count self.old.faults;
+          opened = None;
+          left = [];
+          failed = unwrap_or self.old.opened self.old.failed;
+        }) }
     {
         let fails = self.fails();
         self.calls = self.calls.saturating_add(1);

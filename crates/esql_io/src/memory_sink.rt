@@ -91,6 +91,7 @@ impl Sink for MemorySink {
         ensures some { IfOk result (λ count. 0 < length bytes.now → 0 < count) }
         ensures took { IfOk result (λ count. Some self.new.taken ≡ with_more (Some self.old.taken) (take count bytes.now)) }
         ensures kept { OnErr result (Some self.new.taken ≡ Some self.old.taken) }
+        ensures uncounted { OnOk result (self.new.faults ≡ self.old.faults) }
         ensures rose { OnErr result (Rose self.old.faults self.new.faults) }
         ensures faults { self.old.faults ≤ self.new.faults }
         ensures failing { OnErr result (is_failing self.old ≡ true) }

@@ -19,6 +19,7 @@ pub trait Sink {
         ensures some { IfOk result (λ count. 0 < length bytes.now → 0 < count) }
         ensures took { IfOk result (λ count. taken self.new ≡ with_more (taken self.old) (take count bytes.now)) }
         ensures kept { OnErr result (taken self.new ≡ taken self.old) }
+        ensures uncounted { OnOk result (faults self.new ≡ faults self.old) }
         ensures rose { OnErr result (Rose (faults self.old) (faults self.new)) }
         ensures faults { faults self.old ≤ faults self.new };
 }
@@ -28,6 +29,7 @@ pub trait Sink {
 pub fn write_whole<K: Sink>(sink: &mut K, bytes: &[u8]) -> Result<(), Failed>
     ensures took { OnOk result (K.taken sink.new ≡ with_more (K.taken sink.old) bytes.now) }
     ensures front { OnErr result (TookFront (K.taken sink.old) (K.taken sink.new) bytes.now) }
+    ensures uncounted { OnOk result (K.faults sink.new ≡ K.faults sink.old) }
     ensures rose { OnErr result (Rose (K.faults sink.old) (K.faults sink.new)) }
     ensures faults { K.faults sink.old ≤ K.faults sink.new }
 {
