@@ -67,7 +67,7 @@ fn cell_at(rows: &[Seq<Cell>], row: u64, column: u32) -> Option<&Cell>
 /// Each line that is not blank is a JSON object, and gives each column the cell that the column takes of it: the values under
 /// its dotted name, of arrays those of their items. The first bad line is named, in it the first bad column, and in it the
 /// first bad item. `TooLarge` comes exactly where the file has more than 268,435,456 bytes, before any row is judged, and
-/// `ReadFault` only where a call on the files failed.
+/// `ReadFault` exactly where a call on the files failed.
 pub fn load_table<F: Files>(
     alloc: Global,
     files: &mut F,
@@ -85,6 +85,7 @@ pub fn load_table<F: Files>(
         (λ bytes_of. IsSomeAnd (bytes_of file.now) (λ bytes. MAX_FILE < length bytes)) }
     ensures rose { result ≡ Err LoadError.ReadFault → Rose (F.faults files.old) (F.faults files.new) }
     ensures failed { result ≡ Err LoadError.ReadFault → F.failed files.new ≡ file.now }
+    ensures uncounted { (result ≡ Err LoadError.ReadFault → ⊥) → F.faults files.new ≡ F.faults files.old }
     ensures holds { F.holds files.new ≡ F.holds files.old }
     ensures faults { F.faults files.old ≤ F.faults files.new }
 {

@@ -27,7 +27,7 @@ pub enum ReadError {
 
 /// Reads a file from its first byte to its last; answers `None` exactly where it is not held.
 ///
-/// `ReadFault` comes only where a call on the files failed, `TooLarge` exactly where the file has more than 268,435,456
+/// `ReadFault` comes exactly where a call on the files failed, `TooLarge` exactly where the file has more than 268,435,456
 /// bytes, of which one more than that is read.
 pub fn read_whole<F: Files>(
     alloc: Global,
@@ -43,6 +43,7 @@ pub fn read_whole<F: Files>(
     ensures rose { result ≡ Err ReadError.ReadFault → Rose (F.faults files.old) (F.faults files.new) }
     ensures failed { result ≡ Err ReadError.ReadFault → F.failed files.new ≡ file.now }
     ensures kept { OnOk result (F.failed files.new ≡ F.failed files.old) }
+    ensures uncounted { (result ≡ Err ReadError.ReadFault → ⊥) → F.faults files.new ≡ F.faults files.old }
     ensures holds { F.holds files.new ≡ F.holds files.old }
     ensures faults { F.faults files.old ≤ F.faults files.new }
 {
@@ -67,6 +68,7 @@ fn read_rest<F: Files>(alloc: Global, files: &mut F) -> Result<Seq<u8>, ReadErro
     ensures failed { result ≡ Err ReadError.ReadFault
         → IfSome (F.opened files.old) (λ name. F.failed files.new ≡ name) }
     ensures kept { OnOk result (F.failed files.new ≡ F.failed files.old) }
+    ensures uncounted { (result ≡ Err ReadError.ReadFault → ⊥) → F.faults files.new ≡ F.faults files.old }
     ensures holds { F.holds files.new ≡ F.holds files.old }
     ensures faults { F.faults files.old ≤ F.faults files.new }
 {
@@ -100,6 +102,7 @@ fn read_piece<F: Files>(
     ensures failed { result ≡ Err ReadError.ReadFault
         → IfSome (F.opened files.old) (λ name. F.failed files.new ≡ name) }
     ensures kept { OnOk result (F.failed files.new ≡ F.failed files.old) }
+    ensures uncounted { (result ≡ Err ReadError.ReadFault → ⊥) → F.faults files.new ≡ F.faults files.old }
     ensures holds { F.holds files.new ≡ F.holds files.old }
     ensures faults { F.faults files.old ≤ F.faults files.new }
 {

@@ -10,7 +10,7 @@ pieces-init g c = record {
   opened = refl;
   kept = refl;
   holds = refl;
-  faults = omega arith;
+  faults = refl;
   within = omega (arith, c.new-bytes.ensures.len);
 }
 
@@ -31,7 +31,7 @@ pieces-preserved g c =
       opened = c.in_ok-count.ensures.opened ∙ c.pieces.invariant.opened;
       kept = c.in_ok-count.ensures.kept ∙ c.pieces.invariant.kept;
       holds = c.read_piece.ensures.holds ∙ c.pieces.invariant.holds;
-      faults = omega (arith, c.read_piece.ensures.faults, c.pieces.invariant.faults);
+      faults = c.in_ok-count.ensures.uncounted (λ e. cc) ∙ c.pieces.invariant.faults;
       within = omega (arith, len, c.in_ok-count.ensures.count, length-take c.min-wanted.result c.pieces.piece, c.min-wanted.ensures, c.len-in-pieces.ensures, c.pieces.invariant.within, c.pieces-test.true);
     }
 

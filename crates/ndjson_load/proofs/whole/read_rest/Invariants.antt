@@ -11,7 +11,7 @@ invariant-pieces g l = record {
   opened : g.F.Files.opened l.files ≡ g.F.Files.opened l.initial.files;
   kept : g.F.Files.failed l.files ≡ g.F.Files.failed l.initial.files;
   holds : g.F.Files.holds l.files ≡ g.F.Files.holds l.initial.files;
-  faults : g.F.Files.faults l.initial.files ≤ g.F.Files.faults l.files;
+  faults : g.F.Files.faults l.files ≡ g.F.Files.faults l.initial.files;
   within : vec_len l.bytes ≤ 268435457;
 }
 
