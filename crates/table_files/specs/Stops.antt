@@ -26,6 +26,14 @@ abbrev pub IfUnknownTable : {A : Type 0} → Result A Stop → (Span → Type 0)
 IfUnknownTable (Err (UnknownTable span)) P = P span
 IfUnknownTable _ P = Unit {0}
 
+-- P, if the answer tells what is meant: no call failed, and no memory was refused
+abbrev pub IfTold : {A : Type 0} → Result A Stop → Type 0 → Type 0
+IfTold (Ok a) P = P
+IfTold (Err (UnknownTable span)) P = P
+IfTold (Err (BadData message)) P = P
+IfTold (Err (ReadFault file)) P = Unit {0}
+IfTold (Err (Memory error)) P = Unit {0}
+
 -- the file is the mapping or the row file of one of the names
 abbrev pub IsFileOf : List NameAt → List ℕ → Type 0
 IsFileOf names file = (name : NameAt) × Contains names name × ((file ≡ mapping_file name.name) ⊎ (file ≡ row_file name.name))

@@ -4,7 +4,7 @@ ghost use Rattle.esql_types.specs.Counts.{Rose};
 ghost use Rattle.ndjson_load.specs.Shapes.{IsLoadable};
 ghost use Rattle.table_files.specs.Catalog.{NamesTable, Gathers, mapping_file, row_file};
 ghost use Rattle.table_files.specs.Reading.{ReadsFile, FindsFile, ReadsColumns};
-ghost use Rattle.table_files.specs.Stops.{Says, IfReadFault, IfUnknownTable, IsFileOf, IsSpanOf, name_of};
+ghost use Rattle.table_files.specs.Stops.{Says, IfTold, IfReadFault, IfUnknownTable, IsFileOf, IsSpanOf, name_of};
 
 use crate::messages::{mapping_file, mapping_message, row_file, too_large, too_many};
 use crate::{Stop, TableSource};
@@ -21,7 +21,8 @@ const MAX_ENTRIES: usize = 100_000;
 ///
 /// A table has a mapping `NAME.mapping.json` and a row file `NAME.ndjson`, of which the mapping alone is read; a name that
 /// lacks one of them is no table's. A mapping that is too large or bad, or has with the tables before it more than 100,000
-/// tables and columns, is `BadData`. `ReadFault` comes only where a call on the named file failed.
+/// tables and columns, is `BadData`. `ReadFault` comes only where a call on the named file failed, and where a call failed
+/// nothing else does but `Memory`.
 pub fn gather<F: Files>(
     alloc: Global,
     files: &mut F,
@@ -34,6 +35,7 @@ pub fn gather<F: Files>(
     ensures place { IfUnknownTable result (IsSpanOf names.now) }
     ensures named { IfReadFault result (IsFileOf names.now) }
     ensures rose { IfReadFault result (λ file. Rose (F.faults files.old) (F.faults files.new) × (F.failed files.new ≡ file)) }
+    ensures uncounted { IfTold result (F.faults files.new ≡ F.faults files.old) }
     ensures holds { F.holds files.new ≡ F.holds files.old }
     ensures faults { F.faults files.old ≤ F.faults files.new }
 {
@@ -62,6 +64,7 @@ fn gather_table<F: Files>(
     ensures place { IfUnknownTable result (λ span. span ≡ name.now.span) }
     ensures named { IfReadFault result (λ file. (file ≡ mapping_file name.now.name) ⊎ (file ≡ row_file name.now.name)) }
     ensures rose { IfReadFault result (λ file. Rose (F.faults files.old) (F.faults files.new) × (F.failed files.new ≡ file)) }
+    ensures uncounted { IfTold result (F.faults files.new ≡ F.faults files.old) }
     ensures holds { F.holds files.new ≡ F.holds files.old }
     ensures faults { F.faults files.old ≤ F.faults files.new }
 {
@@ -87,6 +90,7 @@ fn read_file<F: Files>(
     ensures place { IfUnknownTable result (λ place. place ≡ span) }
     ensures rose { IfReadFault result (λ failed. (failed ≡ file.now)
         × Rose (F.faults files.old) (F.faults files.new) × (F.failed files.new ≡ failed)) }
+    ensures uncounted { IfTold result (F.faults files.new ≡ F.faults files.old) }
     ensures holds { F.holds files.new ≡ F.holds files.old }
     ensures faults { F.faults files.old ≤ F.faults files.new }
 {
@@ -109,6 +113,7 @@ fn find_rows<F: Files>(alloc: Global, files: &mut F, name: &NameAt) -> Result<()
     ensures place { IfUnknownTable result (λ span. span ≡ name.now.span) }
     ensures rose { IfReadFault result (λ file. (file ≡ row_file name.now.name)
         × Rose (F.faults files.old) (F.faults files.new) × (F.failed files.new ≡ file)) }
+    ensures uncounted { IfTold result (F.faults files.new ≡ F.faults files.old) }
     ensures holds { F.holds files.new ≡ F.holds files.old }
     ensures faults { F.faults files.old ≤ F.faults files.new }
 {

@@ -4,7 +4,7 @@ ghost use Rattle.std.specs.List.{AllZip};
 ghost use Rattle.esql_types.specs.Counts.{Rose};
 ghost use Rattle.table_files.specs.Catalog.{RowsOf, Loads, row_file};
 ghost use Rattle.table_files.specs.Shapes.{IsTableOf};
-ghost use Rattle.table_files.specs.Stops.{Says, IfReadFault, IfUnknownTable, IsRowFileOf, IsSourceSpan};
+ghost use Rattle.table_files.specs.Stops.{Says, IfTold, IfReadFault, IfUnknownTable, IsRowFileOf, IsSourceSpan};
 
 use crate::messages::{row_file, row_message, too_large};
 use crate::{Stop, TableSource};
@@ -16,7 +16,8 @@ use std::alloc::Global;
 /// The rows of tables, in turn, up to the first bad file.
 ///
 /// The rows of a table are those of its file `NAME.ndjson`. One that is no longer there is an `UnknownTable`; one that is too
-/// large, or has a bad row, is `BadData`. `ReadFault` comes only where a call on the named file failed.
+/// large, or has a bad row, is `BadData`. `ReadFault` comes only where a call on the named file failed, and where a call
+/// failed nothing else does but `Memory`.
 pub fn load<F: Files>(
     alloc: Global,
     files: &mut F,
@@ -27,6 +28,7 @@ pub fn load<F: Files>(
     ensures place { IfUnknownTable result (IsSourceSpan sources.now) }
     ensures named { IfReadFault result (IsRowFileOf sources.now) }
     ensures rose { IfReadFault result (λ file. Rose (F.faults files.old) (F.faults files.new) × (F.failed files.new ≡ file)) }
+    ensures uncounted { IfTold result (F.faults files.new ≡ F.faults files.old) }
     ensures holds { F.holds files.new ≡ F.holds files.old }
     ensures faults { F.faults files.old ≤ F.faults files.new }
 {
@@ -44,6 +46,7 @@ fn load_source<F: Files>(alloc: Global, files: &mut F, source: &TableSource) -> 
     ensures place { IfUnknownTable result (λ span. span ≡ source.now.span) }
     ensures rose { IfReadFault result (λ file. (file ≡ row_file source.now.name)
         × Rose (F.faults files.old) (F.faults files.new) × (F.failed files.new ≡ file)) }
+    ensures uncounted { IfTold result (F.faults files.new ≡ F.faults files.old) }
     ensures holds { F.holds files.new ≡ F.holds files.old }
     ensures faults { F.faults files.old ≤ F.faults files.new }
 {

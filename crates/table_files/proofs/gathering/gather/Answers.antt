@@ -39,7 +39,7 @@ loop-name-preserved g c =
           ∙ sym (take_more names i name c.loop-name-test.true);
       few = omega (arith, c.len.ensures, c.in_ok-source.ensures.few);
       holds = c.gather_table.ensures.holds ∙ c.loop-name.invariant.holds;
-      faults = omega (arith, c.gather_table.ensures.faults, c.loop-name.invariant.faults);
+      faults = c.in_ok-source.ensures.uncounted ∙ c.loop-name.invariant.faults;
     }
 
 pub returns-clause-told : goal.returns-clause-told

@@ -12,5 +12,5 @@ invariant-loop-name g l = record {
   names : map name_of l.sources ≡ take l.name-index l.names;
   few : l.entries ≤ 100000;
   holds : g.F.Files.holds l.files ≡ g.F.Files.holds l.initial.files;
-  faults : g.F.Files.faults l.initial.files ≤ g.F.Files.faults l.files;
+  faults : g.F.Files.faults l.files ≡ g.F.Files.faults l.initial.files;
 }

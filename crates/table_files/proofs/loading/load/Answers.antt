@@ -32,7 +32,7 @@ loop-source-preserved g c =
       shaped = rw c.in_ok-push.ensures.ok (subst (λ ss. AllZip IsTableOf ss (tables ++ table ∷ [])) front
           (all_zipped_more IsTableOf (take i sources) tables source table c.loop-source.invariant.shaped c.in_ok-table.ensures.shaped));
       holds = c.load_source.ensures.holds ∙ c.loop-source.invariant.holds;
-      faults = omega (arith, c.load_source.ensures.faults, c.loop-source.invariant.faults);
+      faults = c.in_ok-table.ensures.uncounted ∙ c.loop-source.invariant.faults;
     }
 
 pub returns-clause-told : goal.returns-clause-told
