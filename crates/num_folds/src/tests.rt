@@ -21,3 +21,11 @@ fn sums_and_extremes(rt: HostRuntime) -> Result<(), Fail> {
     assert_eq!(rt; greatest_longs::<4>(&longs, &all, &none), None);
     Ok(())
 }
+
+#[test]
+fn lanes_are_marked_by_bits(rt: HostRuntime) {
+    int_lanes::fit::<4>(&[1, -2, 3, i32::MIN], 0);
+    long_lanes::fit::<4>(&[1, -2, 3, i64::MIN, 5], 1);
+    assert_eq!(rt; int_lanes::marks::<4>(5).to_bitmask(), 5);
+    assert_eq!(rt; long_lanes::marks::<8>(130).to_bitmask(), 130);
+}
