@@ -15,7 +15,6 @@ use Rattle.esql_phrases.specs.declared.lexeme.Lexeme.{Lexeme}
 use Rattle.esql_phrases.specs.declared.lexeme.Lexeme.TheVariants.{Word, Sign as Mark}
 use Rattle.esql_phrases.specs.declared.part.Part.{Part}
 use Rattle.esql_expr.specs.declared.machine.Frame.{Frame}
-use Rattle.esql_expr.specs.declared.machine.Frame.TheVariants.{Binary, Group, Minus, Not, Call, Within}
 use Rattle.esql_expr.specs.declared.machine.Reader.{Reader}
 use Rattle.esql_expr.specs.declared.machine.Stepped.TheVariants.{Goes}
 use Rattle.esql_expr.specs.declared.machine.Opener.{Opener}

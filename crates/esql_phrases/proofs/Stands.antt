@@ -1,12 +1,11 @@
 -- Lexemes that stand in a text: parts of a list of them, and the span from the first to the last.
-use Rattle.std.proofs.Common.{◌≡◌, ℕ, suc, ◌≤◌, true, false, List, [], ◌∷◌, ◌++◌, length, get_or, map, All, Bool, refl, sym, ap, subst, arith}
-use Rattle.std.specs.Prelude.{AllPairs, IsCharBoundary, ◌==◌, if◌then◌else◌}
+use Rattle.std.proofs.Common.{◌≡◌, ℕ, ◌≤◌, true, false, List, [], ◌∷◌, ◌++◌, length, get_or, map, Bool, refl, sym, ap, subst, arith}
+use Rattle.std.specs.Prelude.{IsCharBoundary, ◌==◌, if◌then◌else◌}
 use Rattle.std.specs.List.{list_any}
 use Rattle.std.proofs.lemmas.List.Elements.{All-head, All-map}
-use Rattle.std.proofs.lemmas.List.Kept.{AllPairs-cons}
 use Rattle.esql_types.specs.declared.places.Span.{Span}
 use Rattle.esql_types.specs.Spans.{SpanFits}
-use Rattle.esql_types.proofs.Lists.{All-front, All-back, AllPairs-head, AllPairs-tail, AllPairs-nil, AllPairs-front, AllPairs-back, AllPairs-map}
+use Rattle.esql_types.proofs.Lists.{All-front, All-back, AllPairs-front, AllPairs-back, AllPairs-map}
 use Rattle.esql_lex.specs.declared.token.Token.{Token}
 use Rattle.esql_lex.specs.declared.token.TokenKind.{TokenKind}
 use Rattle.esql_lex.specs.declared.token.TokenKind.TheVariants.{Name, QuotedName, Pattern, Source, Text, Number, Word, Sign, End}
