@@ -1,5 +1,5 @@
 -- What FROM with one table is answered with, from what its two calls tell.
-use Rattle.std.proofs.Common.{◌≡◌, ◌≢◌, ℕ, ◌≤◌, ◌<◌, List, [], ◌∷◌, ◌++◌, length, map, All, Some, None, IfSome, Result, Ok, Err, IfOk, inr, refl, sym, ap, subst, ◌∙◌, arith}
+use Rattle.std.proofs.Common.{◌≡◌, ◌≢◌, ℕ, ◌≤◌, ◌<◌, List, [], ◌∷◌, ◌++◌, length, map, All, Some, None, IfSome, Result, Ok, Err, OnOk, IfOk, inr, refl, sym, ap, subst, ◌∙◌, arith}
 use Rattle.std.proofs.lemmas.List.{length-map, get_or-map}
 use Rattle.std.proofs.lemmas.List.Elements.{All-nil, All-head, All-contains, All-contains_itself}
 use Rattle.std.specs.List.{Contains, AllZip}
@@ -24,7 +24,7 @@ use Rattle.table_files.specs.declared.stop.Stop.TheVariants.{UnknownTable, BadDa
 use Rattle.table_files.specs.declared.stop.TableSource.{TableSource}
 use Rattle.table_files.specs.Catalog.{BytesOf, Rows, Halt, unknown, bad, Gathers, Loads}
 use Rattle.table_files.specs.Shapes.{IsTableOf}
-use Rattle.table_files.specs.Stops.{Says, IfReadFault, IfUnknownTable, IsFileOf, IsRowFileOf, IsSpanOf, IsSourceSpan, name_of}
+use Rattle.table_files.specs.Stops.{Says, IfTold, IfReadFault, IfUnknownTable, IsFileOf, IsRowFileOf, IsSpanOf, IsSourceSpan, name_of}
 use Rattle.answer_text.specs.Messages.{no_columns}
 use Rattle.esql_run.specs.Bytes.{Outcome, refused}
 use Rattle.esql_run.specs.From.{columns_of, rows_of, halted, shown, AnswersFrom, IsFromOutcome, not_found, without_columns, not_loaded, loaded}
@@ -189,3 +189,15 @@ named_rows text names sources given (StoppedByFault file) (Err (ReadFault named)
 named_rows text names sources given (UnknownTable span) (Err (ReadFault named)) same are is of = absurd is
 named_rows text names sources given (BadData message) (Err (ReadFault named)) same are is of = absurd is
 named_rows text names sources given (StoppedByMemory error) (Err (ReadFault named)) same are is of = absurd is
+
+abbrev stopped_by : (A : Type 0) → Stop → Result A Stop
+stopped_by A stop = Err stop
+
+-- where a stop is answered no call failed
+pub uncounted_stop : (A : Type 0) (text : List ℕ) (stop : Stop) (result : Result Rendered Unanswered) (first middle last : ℕ)
+    → middle ≡ first → IsStopped text stop result → IfTold (stopped_by A stop) (last ≡ middle) → OnOk result (last ≡ first)
+uncounted_stop A text (UnknownTable span) (Ok answer) first middle last same is told = told ∙ same
+uncounted_stop A text (BadData message) (Ok answer) first middle last same is told = told ∙ same
+uncounted_stop A text (StoppedByFault file) (Ok answer) first middle last same is told = absurd is
+uncounted_stop A text (StoppedByMemory error) (Ok answer) first middle last same is told = absurd is
+uncounted_stop A text stop (Err error) first middle last same is told = tt

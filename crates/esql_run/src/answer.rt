@@ -1,4 +1,4 @@
-ghost use Rattle.std.specs.Prelude.{◌≡◌, [], map, IfOk};
+ghost use Rattle.std.specs.Prelude.{◌≡◌, [], map, OnOk, IfOk};
 ghost use Rattle.std.specs.String.{string_bytes};
 ghost use Rattle.esql_types.specs.Counts.{Rose};
 ghost use Rattle.esql_ast.specs.Fits.{QueryFits};
@@ -35,6 +35,7 @@ pub(crate) fn answer<F: Files>(
     ensures status { IfOk result (λ answer. IsTold answer.status) }
     ensures named { IfFault result (AsksFile (map string_bytes words.now)) }
     ensures rose { IfFault result (λ file. Rose (F.faults files.old) (F.faults files.new) × (F.failed files.new ≡ file)) }
+    ensures uncounted { OnOk result (F.faults files.new ≡ F.faults files.old) }
 {
     if words.len() != 1 {
         return Ok(wrong_words(alloc)?);
@@ -57,6 +58,7 @@ fn answer_text<F: Files>(alloc: Global, text: &str, files: &mut F) -> Result<Ren
     ensures status { IfOk result (λ answer. IsTold answer.status) }
     ensures named { IfFault result (IsFileFor text.now) }
     ensures rose { IfFault result (λ file. Rose (F.faults files.old) (F.faults files.new) × (F.failed files.new ≡ file)) }
+    ensures uncounted { OnOk result (F.faults files.new ≡ F.faults files.old) }
 {
     match read_query(alloc, text) {
         Ok(query) => answer_query(alloc, text, &query, files),
@@ -76,6 +78,7 @@ fn answer_query<F: Files>(
     ensures status { IfOk result (λ answer. IsTold answer.status) }
     ensures named { IfFault result (IsFileOf (names_of query.now.source)) }
     ensures rose { IfFault result (λ file. Rose (F.faults files.old) (F.faults files.new) × (F.failed files.new ≡ file)) }
+    ensures uncounted { OnOk result (F.faults files.new ≡ F.faults files.old) }
 {
     match &query.source {
         SourceCommand::Tables { span, tables, .. }

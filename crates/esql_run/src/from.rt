@@ -1,4 +1,4 @@
-ghost use Rattle.std.specs.Prelude.{◌≡◌, ◌≤◌, ◌<◌, [], ◌∷◌, ◌++◌, List, Some, slice_get, length, map, take, All, IfOk};
+ghost use Rattle.std.specs.Prelude.{◌≡◌, ◌≤◌, ◌<◌, [], ◌∷◌, ◌++◌, List, Some, slice_get, length, map, take, All, OnOk, IfOk};
 ghost use Rattle.esql_types.specs.Counts.{Rose};
 ghost use Rattle.esql_types.specs.Spans.{SpanFits};
 ghost use Rattle.table_files.specs.Stops.{IsFileOf};
@@ -36,6 +36,7 @@ pub(crate) fn answer_from<F: Files>(
     ensures status { IfOk result (λ answer. IsTold answer.status) }
     ensures named { IfFault result (IsFileOf names.now) }
     ensures rose { IfFault result (λ file. Rose (F.faults files.old) (F.faults files.new) × (F.failed files.new ≡ file)) }
+    ensures uncounted { OnOk result (F.faults files.new ≡ F.faults files.old) }
 {
     let sources = match gather(alloc, files, names) {
         Ok(sources) => sources,

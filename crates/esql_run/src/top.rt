@@ -31,6 +31,9 @@ pub fn run<F: Files, M: Maker, K: Sink, E: Sink>(
         (K.taken out.old) (K.taken out.new) (E.taken err.old) (E.taken err.new) }
     ensures completeness { IsComplete result (Rose (F.faults files.old) (F.faults files.new))
         (Rose (K.faults out.old) (K.faults out.new) ⊎ Rose (E.faults err.old) (E.faults err.new)) }
+    ensures no_read_failed { IsTold result → F.faults files.new ≡ F.faults files.old }
+    ensures no_write_failed { (result ≡ Status.WriteFault → ⊥)
+        → (K.faults out.new ≡ K.faults out.old) × (E.faults err.new ≡ E.faults err.old) }
     ensures faults { result ≡ Status.ReadFault → TookLine (cannot_read (F.failed files.new))
         (K.taken out.old) (K.taken out.new) (E.taken err.old) (E.taken err.new) }
     ensures asked { result ≡ Status.ReadFault → AsksFile (map string_bytes words.now) (F.failed files.new) }

@@ -14,9 +14,11 @@ pub(crate) fn write_both<K: Sink, E: Sink>(
     out: &mut K,
     err: &mut E,
 ) -> Status
-    ensures { Writes status result (output.now, warnings.now)
+    ensures writes { Writes status result (output.now, warnings.now)
         (K.taken out.old) (K.taken out.new) (E.taken err.old) (E.taken err.new)
         (Rose (K.faults out.old) (K.faults out.new) ⊎ Rose (E.faults err.old) (E.faults err.new)) }
+    ensures uncounted { (result ≡ Status.WriteFault → ⊥)
+        → (K.faults out.new ≡ K.faults out.old) × (E.faults err.new ≡ E.faults err.old) }
 {
     match write_whole(out, output.as_bytes()) {
         Ok(()) => match write_whole(err, warnings.as_bytes()) {

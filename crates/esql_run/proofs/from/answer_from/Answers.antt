@@ -1,8 +1,10 @@
-use Rattle.std.proofs.Common.{◌≤◌, length, List, sym, subst, ap, ◌∙◌}
+use Rattle.std.proofs.Common.{◌≤◌, length, List, refl, sym, subst, ap, ◌∙◌}
 use Rattle.esql_types.specs.declared.names.Column.{Column}
+use Rattle.table_files.specs.declared.stop.TableSource.{TableSource}
+use Rattle.table_files.specs.Catalog.{Rows}
 use Rattle.esql_run.specs.Bytes.{refused}
 use Rattle.esql_run.specs.From.{columns_of}
-use Rattle.esql_run.proofs.Froms.{gather_halted, load_halted, no_column, all_loaded, empty_columns, some_columns, wide_for, shown_for, few_columns, source_fits, named_rows}
+use Rattle.esql_run.proofs.Froms.{gather_halted, load_halted, no_column, all_loaded, empty_columns, some_columns, wide_for, shown_for, few_columns, source_fits, named_rows, uncounted_stop}
 use Rattle.esql_run.proofs.from.answer_from.Goals as goal
 
 pub returns-in-Err-clause-told : goal.returns-in-Err-clause-told
@@ -44,3 +46,10 @@ pub returns-clause-named : goal.returns-clause-named
 returns-clause-named g c =
     named_rows c.args.text.now c.args.names.now c.in-Ok.sources c.as_slice-2.result.now c.in-Err-load.stop c.stopped-in-Err-load.result c.as_slice-2.ensures c.in-Ok.ensures.names
     c.stopped-in-Err-load.ensures.stopped c.in-Err-load.ensures.named
+
+pub returns-in-Err-clause-uncounted : goal.returns-in-Err-clause-uncounted
+returns-in-Err-clause-uncounted g c = uncounted_stop (List TableSource) c.args.text.now c.in-Err.stop c.stopped.result _ _ _ refl c.stopped.ensures.stopped c.in-Err.ensures.uncounted
+
+pub returns-clause-uncounted : goal.returns-clause-uncounted
+returns-clause-uncounted g c =
+    uncounted_stop (List Rows) c.args.text.now c.in-Err-load.stop c.stopped-in-Err-load.result _ _ _ c.in-Ok.ensures.uncounted c.stopped-in-Err-load.ensures.stopped c.in-Err-load.ensures.uncounted

@@ -9,18 +9,18 @@ returns-in-Ok-cannot_read-clause-prefixes g c =
     let rose = rw c.in-Err-ReadFault.field-0-is at c.in-Err-ReadFault.ensures.rose in
     line_fronts ReadFault _ _ _ _ _ c.write_both-in-Ok-cannot_read.result _ _ _ _ _ _ (λ e. cc)
     (inr (rose.0, c.in-Ok-cannot_read.ensures ∙ ap cannot_read (c.as_str-in-Err-ReadFault.ensures ∙ sym rose.1)))
-    (ap (λ x. ([], x)) c.as_str-in-Ok-cannot_read.ensures) c.write_both-in-Ok-cannot_read.ensures
+    (ap (λ x. ([], x)) c.as_str-in-Ok-cannot_read.ensures) c.write_both-in-Ok-cannot_read.ensures.writes
 
 pub returns-in-Err-ReadFault-clause-prefixes : goal.returns-in-Err-ReadFault-clause-prefixes
 returns-in-Err-ReadFault-clause-prefixes g c =
-    line_fronts NoMemory _ _ _ _ _ c.write_both-in-Err.result _ _ _ _ _ _ (λ e. cc) (inl refl) (ap (λ x. ([], x)) c.out_of_memory.ensures) c.write_both-in-Err.ensures
+    line_fronts NoMemory _ _ _ _ _ c.write_both-in-Err.result _ _ _ _ _ _ (λ e. cc) (inl refl) (ap (λ x. ([], x)) c.out_of_memory.ensures) c.write_both-in-Err.ensures.writes
 
 pub returns-clause-prefixes : goal.returns-clause-prefixes
 returns-clause-prefixes g c =
-    line_fronts NoMemory _ _ _ _ _ c.write_both-in-Err-Memory.result _ _ _ _ _ _ (λ e. cc) (inl refl) (ap (λ x. ([], x)) c.out_of_memory-in-Err-Memory.ensures) c.write_both-in-Err-Memory.ensures
+    line_fronts NoMemory _ _ _ _ _ c.write_both-in-Err-Memory.result _ _ _ _ _ _ (λ e. cc) (inl refl) (ap (λ x. ([], x)) c.out_of_memory-in-Err-Memory.ensures) c.write_both-in-Err-Memory.ensures.writes
 
 pub returns-in-Ok-cannot_read-clause-faults : goal.returns-in-Ok-cannot_read-clause-faults
 returns-in-Ok-cannot_read-clause-faults g c =
     let rose = rw c.in-Err-ReadFault.field-0-is at c.in-Err-ReadFault.ensures.rose in
     line_taken ReadFault _ _ c.write_both-in-Ok-cannot_read.result _ _ _ _ _ _ (λ e. cc) (ap (λ x. ([], x)) c.as_str-in-Ok-cannot_read.ensures)
-    (c.in-Ok-cannot_read.ensures ∙ ap cannot_read (c.as_str-in-Err-ReadFault.ensures ∙ sym rose.1)) c.write_both-in-Ok-cannot_read.ensures
+    (c.in-Ok-cannot_read.ensures ∙ ap cannot_read (c.as_str-in-Err-ReadFault.ensures ∙ sym rose.1)) c.write_both-in-Ok-cannot_read.ensures.writes
