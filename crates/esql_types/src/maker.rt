@@ -33,7 +33,8 @@ pub trait Maker {
         ensures rose { result ≡ Err PatternError.TooLarge → Rose (refused self.old) (refused self.new) }
         ensures noted { result ≡ Err PatternError.TooLarge → last self.new ≡ pattern.now }
         ensures count { refused self.old ≤ refused self.new }
-        ensures kept { (result ≡ Err PatternError.TooLarge → ⊥) → last self.new ≡ last self.old };
+        ensures kept { (result ≡ Err PatternError.TooLarge → ⊥) → last self.new ≡ last self.old }
+        ensures uncounted { (result ≡ Err PatternError.TooLarge → ⊥) → refused self.new ≡ refused self.old };
 }
 
 /// The maker that builds by `regex`.
