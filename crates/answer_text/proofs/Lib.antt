@@ -1,3 +1,4 @@
 mod Causes
 mod Feeds
 mod Pushes
+mod SameCause

@@ -1,4 +1,5 @@
 ghost use Rattle.std.specs.Prelude.{◌≡◌, ◌+◌, ◌==◌, ℕ, [], List, length, count_by};
+ghost use Rattle.std.specs.Bool.{Decides};
 ghost use Rattle.std.specs.List.{IsDistinct};
 ghost use Rattle.esql_types.specs.declared.cause.Cause.{Cause};
 ghost use Rattle.esql_types.specs.declared.names.Column.{Column};
@@ -20,4 +21,9 @@ pub fn warned_of_nothing()
 /// A law: no cause is told twice.
 pub fn told_once()
     ensures { (causes : List Cause) → IsDistinct cause_eq (distinct causes) }
+{}
+
+/// A law: two causes are told as one exactly where they are equal.
+pub fn same_cause()
+    ensures { (left right : Cause) → Decides (cause_eq left right) (left ≡ right) }
 {}

@@ -10,7 +10,7 @@ mod tests;
 mod warning;
 
 pub use cells::{push_cell, push_value};
-pub use laws::{shown_in_lines, told_once, warned_of_nothing};
+pub use laws::{same_cause, shown_in_lines, told_once, warned_of_nothing};
 pub use messages::{
     bad_data_line, cannot_read, comment_not_closed, longer_than_limit, nested_too_deep, no_columns,
     not_built, not_closed, number_too_large, out_of_memory, refusal, too_many_commands,

@@ -1,8 +1,8 @@
 -- What files in memory are, and what they hold.
-use Rattle.std.specs.Prelude.{ℕ, ◌==◌, Bool, List, [], ◌∷◌, drop, length, min, Option, Some, None, option_map, slice_get, if◌then◌else◌}
-use Rattle.std.specs.List.{list_any}
+use Rattle.std.specs.Prelude.{ℕ, Bool, List, [], ◌∷◌, drop, length, min, Option, Some, None, option_map, slice_get, if◌then◌else◌}
 use Rattle.std.specs.Str.{bytes_eq}
 use Rattle.std.specs.Option.{option_map_or}
+use Rattle.esql_types.specs.Counts.{is_listed}
 use Rattle.esql_io.specs.declared.memory_files.HeldFile.{HeldFile}
 use Rattle.esql_io.specs.declared.memory_files.OpenFile.{OpenFile}
 
@@ -25,7 +25,7 @@ held_in (file ∷ files) name = if bytes_eq file.name name then Some file.bytes 
 
 -- the next call fails: its number is one that fails
 abbrev pub is_failing : MemoryFilesState → Bool
-is_failing state = list_any (λ call. call == state.calls) state.failing
+is_failing state = is_listed state.failing state.calls
 
 -- how many bytes the next read gives into a piece of so many, where it does not fail
 abbrev pub read_count : MemoryFilesState → ℕ → ℕ

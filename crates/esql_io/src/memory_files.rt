@@ -1,9 +1,8 @@
 ghost use Rattle.std.specs.Prelude.{◌≡◌, ◌≤◌, ◌<◌, ◌+◌, ℕ, [], ◌++◌, Some, None, true, false, drop, take, length, option_map, slice_get, is_some, unwrap_or, if◌then◌else◌, MatchOption, IsSome, OnOk, OnErr, IfOk, IfSome};
 ghost use Rattle.std.specs.Option.{option_copied};
 ghost use Rattle.std.specs.List.{list_any};
-ghost use Rattle.esql_types.specs.Counts.{Rose};
+ghost use Rattle.esql_types.specs.Counts.{Rose, next_count};
 ghost use Rattle.esql_io.specs.Files.{whole_of, nothing_left, IsFound, ReadsNext};
-ghost use Rattle.esql_io.specs.MemorySinks.{next_count};
 ghost use Rattle.esql_io.specs.MemoryFiles.{held_in, is_failing, read_count, opened_name, left_of};
 
 use crate::{Failed, Files};

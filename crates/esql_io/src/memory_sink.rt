@@ -1,7 +1,7 @@
 ghost use Rattle.std.specs.Prelude.{◌≡◌, ◌≤◌, ◌<◌, ◌+◌, [], ◌++◌, Some, take, length, false, true, if◌then◌else◌, OnOk, OnErr, IfOk};
-ghost use Rattle.esql_types.specs.Counts.{Rose};
+ghost use Rattle.esql_types.specs.Counts.{Rose, next_count};
 ghost use Rattle.esql_io.specs.Sinks.{with_more};
-ghost use Rattle.esql_io.specs.MemorySinks.{is_failing, taken_of, next_count};
+ghost use Rattle.esql_io.specs.MemorySinks.{is_failing, taken_of};
 
 use crate::{Failed, Sink};
 use esql_types::Seq;

@@ -1,5 +1,5 @@
 -- The front and the back of a list of which all elements, or all pairs of them, have a property.
-use Rattle.std.proofs.Common.{ℕ, suc, ◌≤◌, List, [], ◌∷◌, ◌++◌, length, take, drop, map, All, sym, arith}
+use Rattle.std.proofs.Common.{suc, List, [], ◌∷◌, ◌++◌, length, take, drop, map, All, sym, arith}
 use Rattle.std.specs.Prelude.{AllPairs}
 use Rattle.std.proofs.lemmas.List.Elements.{All-same, All-take, All-drop, All-map}
 use Rattle.std.proofs.lemmas.List.Kept.{AllPairs-cons}

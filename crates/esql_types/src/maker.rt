@@ -1,5 +1,5 @@
-ghost use Rattle.std.specs.Prelude.{[], ◌≡◌, ◌≤◌, ℕ, List, OnOk, IfOk, IfErr};
-ghost use Rattle.esql_types.specs.Counts.{Rose};
+ghost use Rattle.std.specs.Prelude.{[], ◌≡◌, ◌≤◌, ℕ, List, true, OnOk, IfOk, IfErr};
+ghost use Rattle.esql_types.specs.Counts.{Rose, is_listed, next_count};
 ghost use Rattle.esql_types.specs.Patterns.{IsReading, IsReadable, IsUnreadable};
 
 use crate::{Name, Noted, Seq};
@@ -49,6 +49,8 @@ pub struct CrateMaker {
 impl CrateMaker {
     /// A maker whose calls, numbered from 0, answer `TooLarge` where their number is in `failing`.
     pub fn new(failing: Seq<u64>) -> CrateMaker
+        ensures first { result.calls ≡ 0 }
+        ensures listed { result.failing ≡ failing }
         ensures none_refused { result.refused ≡ 0 }
         ensures none_noted { result.last.text ≡ [] }
     {
@@ -60,7 +62,15 @@ impl CrateMaker {
         }
     }
 
+    // Whether the next call is one of those that answer `TooLarge`.
+    fn fails(&self) -> bool
+        ensures { result ≡ is_listed self.now.failing self.now.calls }
+    {
+        self.failing.as_slice().contains(&self.calls)
+    }
+
     fn refuse(&mut self, pattern: &str) -> PatternError
+        ensures same { (self.new.calls ≡ self.old.calls) × (self.new.failing ≡ self.old.failing) }
         ensures too_large { result ≡ PatternError.TooLarge }
         ensures rose { Rose self.old.refused self.new.refused }
         ensures count { self.old.refused ≤ self.new.refused }
@@ -77,10 +87,22 @@ impl Maker for CrateMaker {
 
     ghost last = { λ maker. maker.last.text };
 
-    fn build(&mut self, alloc: Global, pattern: &str) -> Result<Regex, PatternError> {
-        let call = self.calls;
-        self.calls = call.saturating_add(1);
-        if self.failing.as_slice().contains(&call) {
+    fn build(&mut self, alloc: Global, pattern: &str) -> Result<Regex, PatternError>
+        ensures reading { IfOk result (λ regex. IsReading pattern.now regex) }
+        ensures readable { OnOk result (IsReadable pattern.now) }
+        ensures not_read { result ≡ Err PatternError.NotRead → IsUnreadable pattern.now }
+        ensures rose { result ≡ Err PatternError.TooLarge → Rose self.old.refused self.new.refused }
+        ensures noted { result ≡ Err PatternError.TooLarge → self.new.last.text ≡ pattern.now }
+        ensures count { self.old.refused ≤ self.new.refused }
+        ensures kept { (result ≡ Err PatternError.TooLarge → ⊥) → self.new.last.text ≡ self.old.last.text }
+        ensures uncounted { (result ≡ Err PatternError.TooLarge → ⊥) → self.new.refused ≡ self.old.refused }
+        ensures failing { is_listed self.old.failing self.old.calls ≡ true → result ≡ Err PatternError.TooLarge }
+        ensures numbered { self.new.calls ≡ next_count self.old.calls }
+        ensures listed { self.new.failing ≡ self.old.failing }
+    {
+        let fails = self.fails();
+        self.calls = self.calls.saturating_add(1);
+        if fails {
             return Err(self.refuse(pattern));
         }
         match Regex::new(alloc, pattern) {
