@@ -1,5 +1,5 @@
 -- The depth that the grammar gives a query is the greatest of an expression in it.
-use Rattle.std.proofs.Common.{◌≡◌, ℕ, ◌≤◌, max, List, [], ◌∷◌, ◌++◌, map, length, Option, Some, None, Result, Ok, Err, IfOk, refl, sym, ap, subst, ◌∙◌, arith}
+use Rattle.std.proofs.Common.{◌≡◌, ◌⊎◌, ℕ, ◌≤◌, max, List, map, length, Option, Some, None, Result, Ok, Err, IfOk, MatchResult, refl, sym, ap, subst, ◌∙◌, arith}
 use Rattle.esql_types.specs.declared.places.Span.{Span}
 use Rattle.esql_lex.specs.declared.token.Token.{Token}
 use Rattle.esql_ast.specs.declared.query.Command.{Command}
@@ -25,8 +25,8 @@ use Rattle.esql_commands.specs.declared.point.CommandWord.{CommandWord}
 use Rattle.esql_parse.specs.declared.state.Written.{Written}
 use Rattle.esql_commands.specs.Grammar.{Listed, first_item, next_item, FieldLine, field_line, StatsLine, open_line, where_line, KeyLine, key_line, TableLine, table_line, PatternLine, pattern_line, full_name_line, PairLine, pair_line, ByFields, no_groups, by_fields, Says, from_says, row_says, where_says, eval_says, keep_says, drop_says, rename_says, sort_says, limit_says, expand_says, stats_says, stats_by_says, dissect_says, grok_says, enrich_says, join_says, CommandLine, command_line}
 use Rattle.esql_parse.specs.Grammar.{node_zero, begin_with, go_on_with, Piped, source_line, pipe_line, SpellsQuery, query_line}
+use Rattle.esql_parse.specs.Spells.{Spells, Refuses, IsWantOfMemory}
 use Rattle.esql_parse.specs.WithinLimits.{IsWithinLimits}
-use Rattle.esql_parse.proofs.Parsed.{IsExact}
 
 -- where each item has its depth, the items of a list have the greatest of theirs
 listed_depth : {X : Type 0} {One : List Lexeme → X → ℕ → Type 0} (depth : X → ℕ) → ((w : List Lexeme) (x : X) (d : ℕ) → One w x d → d ≡ depth x)
@@ -49,7 +49,7 @@ stats_depth (open_line f) = let s = field_depth f in omega arith
 stats_depth (where_line where_ f is q) = let s = field_depth f in let t = phrase_depth q in omega arith
 
 key_depth : {w : List Lexeme} {k : SortKey} {d : ℕ} → KeyLine w k d → d ≡ depth_of_key k
-key_depth (key_line q direction order) = phrase_depth q
+key_depth (key_line q _ _) = phrase_depth q
 
 table_depth : {w : List Lexeme} {x : NameAt} {d : ℕ} → TableLine w x d → d ≡ 0
 table_depth (table_line name) = refl
@@ -127,7 +127,7 @@ spelled_depth w written depth (query_line end those) = piped_depth those
 -- what is parsed is within the limits
 pub within : (text : List ℕ) (tokens : List Token) (result : Result Query ParseError)
     → ((source : SourceCommand) (commands : List Command) → depth_of_query (numbered_query source commands) ≡ depth_of_query (as_it_was source commands))
-    → IsExact text tokens result → IfOk result IsWithinLimits
+    → MatchResult result (Spells text tokens) (λ error. IsWantOfMemory error ⊎ Refuses text tokens error) → IfOk result IsWithinLimits
 within text tokens (Ok query) keeps is =
     let source = is.written.source in
     let commands = is.written.commands in

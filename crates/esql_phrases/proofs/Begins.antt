@@ -1,4 +1,4 @@
--- A phrase is not empty, and begins with what an expression can begin with.
+-- What a phrase begins with.
 use Rattle.std.proofs.Common.{◌≡◌, ℕ, List, [], ◌∷◌, ◌++◌, refl, ap}
 use Rattle.esql_lex.specs.declared.token.Sign.TheVariants as sign
 use Rattle.esql_ast.specs.declared.expr.Expr.{Expr}
@@ -56,7 +56,3 @@ begins (is_line m p) = begins_before (begins p) _
 pub begins_items : {w : List Lexeme} {es : List Expr} {d : ℕ} → Items w es d → Begins w
 begins_items (one_item p) = begins p
 begins_items (next_item comma es p) = begins_before (begins_items es) _
-
--- a phrase is not empty
-pub not_empty : {n : ℕ} {w : List Lexeme} {p : Part} → Phrase n w p → (first : Lexeme) × (rest : List Lexeme) × (w ≡ first ∷ rest)
-not_empty p = let b = begins p in (b.first, b.rest, b.whole)
