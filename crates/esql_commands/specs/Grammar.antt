@@ -1,5 +1,6 @@
 -- The grammar of commands: which lexemes spell which command.
 use Rattle.std.specs.Prelude.{◌≡◌, ℕ, max, pos, Bool, true, false, List, [], ◌∷◌, ◌++◌, Option, Some, None}
+use Rattle.esql_types.specs.declared.names.NodeId.{NodeId}
 use Rattle.esql_types.specs.declared.places.Span.{Span}
 use Rattle.esql_lex.specs.declared.token.Reserved.TheVariants as word
 use Rattle.esql_lex.specs.declared.token.Sign.TheVariants as sign
@@ -30,6 +31,10 @@ pub data Listed {A : Type 0} (One : List Lexeme → A → ℕ → Type 0) : List
   next_item : (comma : Span) {u w : List Lexeme} {items : List A} {a : A} {d e : ℕ} → Listed One u items d → One w a e
       → Listed One (u ++ Mark sign.Comma comma ∷ w) (items ++ a ∷ []) (max d e)
 
+-- the number of a node that is not numbered yet
+abbrev pub node_zero : NodeId
+node_zero = record { 0 = 0 }
+
 -- the span of a field is its expression's
 abbrev pub field_of : Option NameAt → Part → Field
 field_of name part = record { name = name; expr = part.expr; span = span_of part }
@@ -47,7 +52,7 @@ pub data FieldLine : List Lexeme → Field → ℕ → Type 0 where
 pub data StatsLine : List Lexeme → StatsField → ℕ → Type 0 where
   open_line : {w : List Lexeme} {f : Field} {d : ℕ} → FieldLine w f d → StatsLine w (record { field = f; condition = None }) d
   where_line : (where_ : NameAt) {u w : List Lexeme} {f : Field} {d : ℕ} {p : Part} → FieldLine u f d → command_word where_.name ≡ Some begins.Where → Phrase 0 w p
-      → StatsLine (u ++ Plain where_ ∷ w) (record { field = f; condition = Some (record { node = record { 0 = 0 }; expr = p.expr }) }) (max d p.depth)
+      → StatsLine (u ++ Plain where_ ∷ w) (record { field = f; condition = Some (record { node = node_zero; expr = p.expr }) }) (max d p.depth)
 
 -- [ ASC | DESC ]
 pub data Direction : List Lexeme → Bool → Type 0 where

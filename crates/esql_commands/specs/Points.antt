@@ -19,6 +19,7 @@ use Rattle.esql_ast.specs.declared.query.CommandKind.TheVariants as command
 use Rattle.esql_phrases.specs.declared.lexeme.Lexeme.{Lexeme}
 use Rattle.esql_phrases.specs.declared.lexeme.Lexeme.TheVariants.{Plain, Dotted, Quoted, Pattern as Wild, Source as Table, Text, Number, Word, Sign as Mark}
 use Rattle.esql_phrases.specs.declared.part.Part.{Part}
+use Rattle.esql_phrases.specs.Parts.{span_of}
 use Rattle.esql_expr.specs.declared.machine.Stepped.{Stepped}
 use Rattle.esql_expr.specs.declared.machine.Stepped.TheVariants.{Goes, Ends, Stuck}
 use Rattle.esql_expr.specs.Machine as expr
@@ -35,7 +36,7 @@ use Rattle.esql_commands.specs.declared.point.Body.TheVariants as body
 use Rattle.esql_commands.specs.declared.point.CommandWord.{CommandWord}
 use Rattle.esql_commands.specs.declared.point.CommandWord.TheVariants as begins
 use Rattle.esql_commands.specs.Words.{command_word, is_join, is_append_separator}
-use Rattle.esql_commands.specs.Grammar.{field_of}
+use Rattle.esql_commands.specs.Grammar.{node_zero, field_of}
 
 -- the line of the grammar that an expression in the slot has to be in
 abbrev pub line_in : Slot → ℕ

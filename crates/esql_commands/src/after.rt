@@ -47,7 +47,8 @@ fn after_expr(
 
 // After a point of DISSECT, ENRICH or LOOKUP JOIN.
 fn after_part(alloc: Global, point: Point, next: Lexeme) -> Result<Option<Inside>, AllocError>
-    ensures { IsInParts point → IfOk result (λ inside. inside ≡ after_point point next) }
+    requires { IsInParts point }
+    ensures { IfOk result (λ inside. inside ≡ after_point point next) }
 {
     match point {
         Point::DissectPattern { input, pattern } => Ok(after_dissect_pattern(input, pattern, next)),
@@ -75,7 +76,7 @@ fn after_part(alloc: Global, point: Point, next: Lexeme) -> Result<Option<Inside
         Point::Join => Ok(after_join(next)),
         Point::JoinTable { table } => Ok(after_join_table(table, next)),
         Point::JoinOn { table } => Ok(after_join_on(table, next)),
-        _ => Ok(None),
+        _ => unreachable!(),
     }
 }
 
@@ -85,7 +86,8 @@ fn after_pair_or_key(
     point: Point,
     next: Lexeme,
 ) -> Result<Option<Inside>, AllocError>
-    ensures { IsInPairsOrKeys point → IfOk result (λ inside. inside ≡ after_point point next) }
+    requires { IsInPairsOrKeys point }
+    ensures { IfOk result (λ inside. inside ≡ after_point point next) }
 {
     match point {
         Point::RenameNext { pairs } => Ok(after_rename(pairs, next)),
@@ -103,7 +105,7 @@ fn after_pair_or_key(
             descending,
         } => after_nulls(keys, expr, descending, next),
         Point::KeyWhole { keys } => Ok(after_whole_key(alloc, keys, next)),
-        _ => Ok(None),
+        _ => unreachable!(),
     }
 }
 

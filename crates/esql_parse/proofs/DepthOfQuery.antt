@@ -23,8 +23,8 @@ use Rattle.esql_commands.specs.declared.point.Body.{Body}
 use Rattle.esql_commands.specs.declared.point.Body.TheVariants as body
 use Rattle.esql_commands.specs.declared.point.CommandWord.{CommandWord}
 use Rattle.esql_parse.specs.declared.state.Written.{Written}
-use Rattle.esql_commands.specs.Grammar.{Listed, first_item, next_item, FieldLine, field_line, StatsLine, open_line, where_line, KeyLine, key_line, TableLine, table_line, PatternLine, pattern_line, full_name_line, PairLine, pair_line, ByFields, no_groups, by_fields, Says, from_says, row_says, where_says, eval_says, keep_says, drop_says, rename_says, sort_says, limit_says, expand_says, stats_says, stats_by_says, dissect_says, grok_says, enrich_says, join_says, CommandLine, command_line}
-use Rattle.esql_parse.specs.Grammar.{node_zero, begin_with, go_on_with, Piped, source_line, pipe_line, SpellsQuery, query_line}
+use Rattle.esql_commands.specs.Grammar.{node_zero, Listed, first_item, next_item, FieldLine, field_line, StatsLine, open_line, where_line, KeyLine, key_line, TableLine, table_line, PatternLine, pattern_line, full_name_line, PairLine, pair_line, ByFields, no_groups, by_fields, Says, from_says, row_says, where_says, eval_says, keep_says, drop_says, rename_says, sort_says, limit_says, expand_says, stats_says, stats_by_says, dissect_says, grok_says, enrich_says, join_says, CommandLine, command_line}
+use Rattle.esql_parse.specs.Grammar.{begin_with, go_on_with, Piped, source_line, pipe_line, SpellsQuery, query_line}
 use Rattle.esql_parse.specs.Spells.{Spells, Refuses, IsWantOfMemory}
 use Rattle.esql_parse.specs.WithinLimits.{IsWithinLimits}
 

@@ -1,6 +1,5 @@
 -- The grammar of queries: a source command, and commands after it.
 use Rattle.std.specs.Prelude.{◌≡◌, ℕ, max, List, [], ◌∷◌, ◌++◌, Option, Some, None}
-use Rattle.esql_types.specs.declared.names.NodeId.{NodeId}
 use Rattle.esql_types.specs.declared.places.Span.{Span}
 use Rattle.esql_lex.specs.declared.token.Sign.TheVariants as sign
 use Rattle.esql_ast.specs.declared.query.SourceCommand.TheVariants as source
@@ -9,10 +8,7 @@ use Rattle.esql_phrases.specs.declared.lexeme.Lexeme.TheVariants.{Sign as Mark, 
 use Rattle.esql_commands.specs.declared.point.Body.{Body}
 use Rattle.esql_commands.specs.declared.point.Body.TheVariants as body
 use Rattle.esql_parse.specs.declared.state.Written.{Written}
-use Rattle.esql_commands.specs.Grammar.{CommandLine}
-
-abbrev pub node_zero : NodeId
-node_zero = record { 0 = 0 }
+use Rattle.esql_commands.specs.Grammar.{node_zero, CommandLine}
 
 -- a query begins with a source command
 abbrev pub begin_with : Body → Span → Option Written

@@ -1,8 +1,8 @@
-ghost use Rattle.std.specs.Prelude.{◌≤◌, length, All};
+ghost use Rattle.std.specs.Prelude.{◌≡◌, ◌≤◌, length, All};
 ghost use Rattle.esql_lex.specs.Tokens.{IsPartOf};
 
 use crate::{
-    Lexeme, Part, binary_part, call_part, cast_part, column_part, constant_part,
+    Lexeme, Part, binary_part, call_part, cast_part, column_part, constant_part, depth_of_phrase,
     from_first_to_last, group_part, is_null_part, lexeme_of, like_part, list_part, minus_part,
     negative_value, not_part, null_part, number_value, span_at, spans_fit, star_part, within_part,
 };
@@ -31,31 +31,47 @@ fn name(alloc: Global, span: Span) -> Result<NameAt, AllocError> {
     Ok(NameAt { name, span })
 }
 
-// Depth, line and span of each part, the one in the next.
+fn number(alloc: Global, span: Span) -> Part
+    ensures { result.depth ≡ 1 }
+{
+    constant_part(alloc, number_value(5), span)
+}
+
 #[test]
-fn a_part_is_one_deeper_than_its_operands(rt: HostRuntime) -> Result<(), Fail> {
+fn operators_stand_from_one_end_to_the_other(rt: HostRuntime) -> Result<(), Fail> {
     let alloc = rt.alloc();
     let mut out = String::new(alloc);
-    let left = constant_part(alloc, number_value(5), FIRST);
-    let right = constant_part(alloc, negative_value(5), LAST);
-    let sum = binary_part(alloc, BinaryOp::Add, left, right)?;
+    let negative = constant_part(alloc, negative_value(5), LAST);
+    show(&mut out, &negative)?;
+    let sum = binary_part(
+        alloc,
+        BinaryOp::Add,
+        number(alloc, FIRST),
+        number(alloc, LAST),
+    )?;
     show(&mut out, &sum)?;
-    let group = group_part(alloc, FIRST, sum, LAST)?;
-    show(&mut out, &group)?;
-    let minus = minus_part(alloc, FIRST, group)?;
+    let minus = minus_part(alloc, FIRST, number(alloc, LAST))?;
     show(&mut out, &minus)?;
-    let cast = cast_part(alloc, minus, name(alloc, LAST)?)?;
-    show(&mut out, &cast)?;
-    let not = not_part(alloc, FIRST, cast)?;
+    let not = not_part(alloc, FIRST, number(alloc, LAST))?;
     show(&mut out, &not)?;
-    let test = is_null_part(alloc, false, not, LAST)?;
-    show(&mut out, &test)?;
-    assert_eq!(rt;
-        out.as_str(),
-        "2 4 0-5; 3 8 0-5; 4 6 0-5; 5 7 0-5; 6 2 0-5; 7 3 0-5; "
-    );
+    assert_eq!(rt; out.as_str(), "1 8 4-5; 2 4 0-5; 2 6 0-5; 2 2 0-5; ");
     from_first_to_last();
     spans_fit();
+    depth_of_phrase();
+    Ok(())
+}
+
+#[test]
+fn parentheses_tests_and_casts_are_one_deeper(rt: HostRuntime) -> Result<(), Fail> {
+    let alloc = rt.alloc();
+    let mut out = String::new(alloc);
+    let group = group_part(alloc, FIRST, number(alloc, FIRST), LAST)?;
+    show(&mut out, &group)?;
+    let cast = cast_part(alloc, number(alloc, FIRST), name(alloc, LAST)?)?;
+    show(&mut out, &cast)?;
+    let test = is_null_part(alloc, false, number(alloc, FIRST), LAST)?;
+    show(&mut out, &test)?;
+    assert_eq!(rt; out.as_str(), "2 8 0-5; 2 7 0-5; 2 3 0-5; ");
     Ok(())
 }
 
