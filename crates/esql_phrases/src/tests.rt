@@ -17,13 +17,10 @@ const FIRST: Span = Span { from: 0, to: 1 };
 
 const LAST: Span = Span { from: 4, to: 5 };
 
-fn show(out: &mut String, part: &Part) -> Result<(), AllocError> {
+// Depth, line and span.
+fn shown(alloc: Global, part: Part) -> Result<String, AllocError> {
     let span = part.expr.span;
-    write!(
-        out,
-        "{} {} {}-{}; ",
-        part.depth, part.line, span.from, span.to
-    )
+    format!(in alloc; "{} {} {}-{}", part.depth, part.line, span.from, span.to)
 }
 
 fn name(alloc: Global, span: Span) -> Result<NameAt, AllocError> {
@@ -40,21 +37,16 @@ fn number(alloc: Global, span: Span) -> Part
 #[test]
 fn operators_stand_from_one_end_to_the_other(rt: HostRuntime) -> Result<(), Fail> {
     let alloc = rt.alloc();
-    let mut out = String::new(alloc);
-    let negative = constant_part(alloc, negative_value(5), LAST);
-    show(&mut out, &negative)?;
     let sum = binary_part(
         alloc,
         BinaryOp::Add,
         number(alloc, FIRST),
         number(alloc, LAST),
     )?;
-    show(&mut out, &sum)?;
-    let minus = minus_part(alloc, FIRST, number(alloc, LAST))?;
-    show(&mut out, &minus)?;
-    let not = not_part(alloc, FIRST, number(alloc, LAST))?;
-    show(&mut out, &not)?;
-    assert_eq!(rt; out.as_str(), "1 8 4-5; 2 4 0-5; 2 6 0-5; 2 2 0-5; ");
+    let sum = shown(alloc, sum)?;
+    assert_eq!(rt; sum.as_str(), "2 4 0-5");
+    let minus = shown(alloc, minus_part(alloc, FIRST, number(alloc, LAST))?)?;
+    assert_eq!(rt; minus.as_str(), "2 6 0-5");
     from_first_to_last();
     spans_fit();
     depth_of_phrase();
@@ -62,41 +54,72 @@ fn operators_stand_from_one_end_to_the_other(rt: HostRuntime) -> Result<(), Fail
 }
 
 #[test]
-fn parentheses_tests_and_casts_are_one_deeper(rt: HostRuntime) -> Result<(), Fail> {
+fn parentheses_and_not_are_one_deeper(rt: HostRuntime) -> Result<(), Fail> {
     let alloc = rt.alloc();
-    let mut out = String::new(alloc);
-    let group = group_part(alloc, FIRST, number(alloc, FIRST), LAST)?;
-    show(&mut out, &group)?;
-    let cast = cast_part(alloc, number(alloc, FIRST), name(alloc, LAST)?)?;
-    show(&mut out, &cast)?;
-    let test = is_null_part(alloc, false, number(alloc, FIRST), LAST)?;
-    show(&mut out, &test)?;
-    assert_eq!(rt; out.as_str(), "2 8 0-5; 2 7 0-5; 2 3 0-5; ");
+    let group = shown(alloc, group_part(alloc, FIRST, number(alloc, FIRST), LAST)?)?;
+    assert_eq!(rt; group.as_str(), "2 8 0-5");
+    let not = shown(alloc, not_part(alloc, FIRST, number(alloc, LAST))?)?;
+    assert_eq!(rt; not.as_str(), "2 2 0-5");
+    Ok(())
+}
+
+#[test]
+fn tests_and_casts_are_one_deeper(rt: HostRuntime) -> Result<(), Fail> {
+    let alloc = rt.alloc();
+    let kind = name(alloc, LAST)?;
+    let cast = shown(alloc, cast_part(alloc, number(alloc, FIRST), kind)?)?;
+    assert_eq!(rt; cast.as_str(), "2 7 0-5");
+    let test = shown(
+        alloc,
+        is_null_part(alloc, false, number(alloc, FIRST), LAST)?,
+    )?;
+    assert_eq!(rt; test.as_str(), "2 3 0-5");
     Ok(())
 }
 
 #[test]
 fn lists_and_calls_stand_up_to_what_closes_them(rt: HostRuntime) -> Result<(), Fail> {
     let alloc = rt.alloc();
-    let mut out = String::new(alloc);
-    show(&mut out, &list_part(FIRST, Seq::new(alloc), LAST))?;
-    show(&mut out, &star_part(alloc, name(alloc, FIRST)?, LAST))?;
-    let mut args = Seq::new(alloc);
-    args.push(null_part(alloc, FIRST).expr)?;
-    let call = call_part(name(alloc, FIRST)?, args, 1, LAST);
-    show(&mut out, &call)?;
-    let mut items = Seq::new(alloc);
-    items.push(call.expr)?;
-    let column = column_part(name(alloc, FIRST)?);
-    let within = within_part(alloc, true, column, items, 2, LAST)?;
-    show(&mut out, &within)?;
+    let list = shown(alloc, list_part(FIRST, Seq::new(alloc), LAST))?;
+    assert_eq!(rt; list.as_str(), "1 8 0-5");
+    let star = shown(alloc, star_part(alloc, name(alloc, FIRST)?, LAST))?;
+    assert_eq!(rt; star.as_str(), "1 8 0-5");
+    let call = shown(
+        alloc,
+        call_part(name(alloc, FIRST)?, Seq::new(alloc), 1, LAST),
+    )?;
+    assert_eq!(rt; call.as_str(), "2 8 0-5");
+    Ok(())
+}
+
+#[test]
+fn columns_and_constants_stand_for_themselves(rt: HostRuntime) -> Result<(), Fail> {
+    let alloc = rt.alloc();
+    let column = shown(alloc, column_part(name(alloc, FIRST)?))?;
+    assert_eq!(rt; column.as_str(), "1 8 0-1");
+    let null = shown(alloc, null_part(alloc, LAST))?;
+    assert_eq!(rt; null.as_str(), "1 8 4-5");
+    let negative = shown(alloc, constant_part(alloc, negative_value(5), LAST))?;
+    assert_eq!(rt; negative.as_str(), "1 8 4-5");
+    Ok(())
+}
+
+#[test]
+fn in_and_like_are_one_deeper(rt: HostRuntime) -> Result<(), Fail> {
+    let alloc = rt.alloc();
+    let items = Seq::new(alloc);
+    let within = shown(
+        alloc,
+        within_part(alloc, true, number(alloc, FIRST), items, 2, LAST)?,
+    )?;
+    assert_eq!(rt; within.as_str(), "3 3 0-5");
     let text = Text::from_str(alloc, "*")?;
-    let like = like_part(alloc, false, false, within, TextAt { text, span: LAST })?;
-    show(&mut out, &like)?;
-    assert_eq!(rt;
-        out.as_str(),
-        "1 8 0-5; 1 8 0-5; 2 8 0-5; 3 3 0-5; 4 3 0-5; "
-    );
+    let pattern = TextAt { text, span: LAST };
+    let like = shown(
+        alloc,
+        like_part(alloc, false, false, number(alloc, FIRST), pattern)?,
+    )?;
+    assert_eq!(rt; like.as_str(), "2 3 0-5");
     Ok(())
 }
 
