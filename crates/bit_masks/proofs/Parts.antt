@@ -109,6 +109,13 @@ module _ (word s count bits : ℕ) (room : s + count ≤ 64) (fits : bits < 2 ^ 
 abbrev pub put_words : List ℕ → ℕ → ℕ → ℕ → List ℕ
 put_words words start count bits = set words (start / 64) (word_with (get_or words (start / 64) 0) (start % 64) count bits)
 
+-- they come of the word that was read and of as many ones
+pub put_is : (words : List ℕ) (start count bits word ones : ℕ) → word ≡ get_or words (start / 64) 0 → ones ≡ 2 ^ count - 1
+    → set words (start / 64) (bit_or (bit_and word (bit_not w64 (ones * 2 ^ (start % 64) % 2 ^ 64))) (bits * 2 ^ (start % 64) % 2 ^ 64)) ≡ put_words words start count bits
+put_is words start count bits word ones read as_many =
+    ap (λ (n : ℕ). set words (start / 64) (bit_or (bit_and word (bit_not w64 (n * 2 ^ (start % 64) % 2 ^ 64))) (bits * 2 ^ (start % 64) % 2 ^ 64))) as_many
+    ∙ ap (λ (w : ℕ). set words (start / 64) (word_with w (start % 64) count bits)) read
+
 module _ (words : List ℕ) (len start count bits : ℕ) (long : length words ≡ len / 64 + 1) (one_word : start % 64 + count ≤ 64) (within : start + count ≤ len) (fits : bits < 2 ^ count) where
   pub put_inside : (k : ℕ) → k < count → get_or (booleans (put_words words start count bits) len) (start + k) false ≡ eqb (bit_at bits k) 1
   put_inside k below =

@@ -1,5 +1,5 @@
 -- The places of a list of words.
-use Rattle.std.proofs.Common.{◌≡◌, ◌≢◌, ℕ, zero, suc, ◌+◌, ◌-◌, ◌/◌, ◌%◌, ◌^◌, ◌<◌, ◌≤◌, Bool, true, false, cond, eqb, ltb, not, ◌&&◌, ◌||◌, min, max, List, length, get_or, set, replicate, map, refl, sym, ap, ◌∙◌, ⊎_elim, arith, bit_and, bit_or, length-set}
+use Rattle.std.proofs.Common.{◌≡◌, ◌≢◌, ℕ, zero, suc, ◌+◌, ◌-◌, ◌/◌, ◌%◌, ◌^◌, ◌<◌, ◌≤◌, Bool, true, false, cond, eqb, ltb, not, ◌&&◌, ◌||◌, min, max, List, length, get_or, set, replicate, map, refl, sym, ap, subst, ◌∙◌, ⊎_elim, arith, bit_and, bit_or, length-set, Fits}
 use Rattle.std.proofs.lemmas.Bool.{cases_eq, cases_lt, lt-ltb, le-ltb}
 use Rattle.std.proofs.lemmas.List.{get_or-set_same, get_or-set_other, get_or_past, get_or-replicate, get_or-map, length-map}
 use Rattle.std.proofs.lemmas.List.FromFn.{length-map-range_with_len, get_or-map-range_with_len, fill_by_all}
@@ -13,6 +13,10 @@ use Rattle.bit_masks.specs.Masks.{is_set, booleans}
 pub length-booleans : (words : List ℕ) (len : ℕ) → length (booleans words len) ≡ len
 length-booleans words len = length-map-range_with_len (is_set words) 0 len
 
+-- a mask is as long as it says
+pub length_of : (words : List ℕ) (len : ℕ) (mask : List Bool) → booleans words len ≡ mask → length mask ≡ len
+length_of words len mask is = ap length (sym is) ∙ length-booleans words len
+
 pub get_or-booleans : (words : List ℕ) (len i : ℕ) → i < len → get_or (booleans words len) i false ≡ is_set words i
 get_or-booleans words len i within = get_or-map-range_with_len (is_set words) 0 len i i false within (omega arith)
 
@@ -22,6 +26,10 @@ booleans_are words len xs long same = sym (fill_by_all (is_set words) xs len fal
 
 pub is_set_past : (words : List ℕ) (i : ℕ) → length words ≤ i / 64 → is_set words i ≡ false
 is_set_past words i past = ap (λ (word : ℕ). eqb (bit_at word (i % 64)) 1) (get_or_past words (i / 64) 0 past) ∙ ap (λ (bit : ℕ). eqb bit 1) (bit_at-zero (i % 64))
+
+-- the words of a slice fit
+pub words_fit : (slice words : List ℕ) → slice ≡ words → ((k : ℕ) → Fits w64 (get_or slice k 0)) → (k : ℕ) → get_or words k 0 < 2 ^ 64
+words_fit slice words same fits k = subst (λ (ws : List ℕ). get_or ws k 0 < 2 ^ 64) same (fits k).fits
 
 -- bits with a one-word change
 pub is_set_here : (words : List ℕ) (index word i : ℕ) → index < length words → i / 64 ≡ index → is_set (set words index word) i ≡ eqb (bit_at word (i % 64)) 1
@@ -112,6 +120,13 @@ and_false false = refl
 abbrev pub cut_words : List ℕ → ℕ → List ℕ
 cut_words words len = set words (len / 64) (bit_and (get_or words (len / 64) 0) (2 ^ (len % 64) - 1))
 
+-- they come of the last word that was read and of as many ones
+pub cut_is : (had words : List ℕ) (len word ones : ℕ) → had ≡ words → word ≡ get_or words (len / 64) 0 → ones ≡ 2 ^ (len % 64) - 1 → set had (len / 64) (bit_and word ones) ≡ cut_words words len
+cut_is had words len word ones same read as_many =
+    ap (λ (ws : List ℕ). set ws (len / 64) (bit_and word ones)) same
+    ∙ ap (λ (w : ℕ). set words (len / 64) (bit_and w ones)) read
+    ∙ ap (λ (w : ℕ). set words (len / 64) (bit_and (get_or words (len / 64) 0) w)) as_many
+
 module _ (words : List ℕ) (len : ℕ) (long : length words ≡ len / 64 + 1) where
   pub is_set_cut : (i : ℕ) → i < len → is_set (cut_words words len) i ≡ is_set words i
   is_set_cut i inside = ⊎_elim
@@ -142,13 +157,13 @@ module _ (op : Bool → Bool → Bool) (f : ℕ → ℕ → ℕ) (left right mad
   is_set_combined : (i : ℕ) → i / 64 < length left → is_set made i ≡ op (is_set left i) (is_set right i)
   is_set_combined i within = ap (λ (w : ℕ). eqb (bit_at w (i % 64)) 1) (each (i / 64) within) ∙ bits _ _ (i % 64)
 
-  pub none_past_combined : ((i : ℕ) → len ≤ i → is_set left i ≡ false) → ((i : ℕ) → len ≤ i → is_set right i ≡ false) → (i : ℕ) → len ≤ i → is_set made i ≡ false
+  none_past_combined : ((i : ℕ) → len ≤ i → is_set left i ≡ false) → ((i : ℕ) → len ≤ i → is_set right i ≡ false) → (i : ℕ) → len ≤ i → is_set made i ≡ false
   none_past_combined none_left none_right i past = ⊎_elim
       (λ (within : i / 64 < length left). is_set_combined i within ∙ ap (λ (b : Bool). op b (is_set right i)) (none_left i past) ∙ ap (op false) (none_right i past) ∙ neither)
       (λ (beyond : length left ≤ i / 64). is_set_past made i (omega arith))
       (cases_lt (i / 64) (length left))
 
-  pub booleans_combined : booleans made len ≡ zip2 op (booleans left len) (booleans right len)
+  booleans_combined : booleans made len ≡ zip2 op (booleans left len) (booleans right len)
   booleans_combined =
       let long_left = length-booleans left len in
       let long_right = length-booleans right len in
@@ -157,6 +172,18 @@ module _ (op : Bool → Bool → Bool) (f : ℕ → ℕ → ℕ) (left right mad
       ∙ ap (λ (b : Bool). op b (get_or (booleans right len) i false)) (get_or-booleans left len i below)
       ∙ ap (op (is_set left i)) (get_or-booleans right len i below)
       ∙ sym (is_set_combined i (omega arith)))
+
+  -- the masks that the words stand for, of which none has a place past the last
+  pub words_combined : (other_len : ℕ) → len ≡ other_len → ((i : ℕ) → len ≤ i → is_set left i ≡ false) → ((i : ℕ) → other_len ≤ i → is_set right i ≡ false)
+      → (length made ≡ len / 64 + 1) × ((i : ℕ) → len ≤ i → is_set made i ≡ false)
+  words_combined other_len same none_left none_right = (same_length ∙ long, none_past_combined none_left (λ i past. none_right i (omega arith)))
+
+  pub masks_combined : (other_len : ℕ) (mask other : List Bool) → len ≡ other_len → booleans left len ≡ mask → booleans right other_len ≡ other → booleans made len ≡ zip2 op mask other
+  masks_combined other_len mask other same mask_is other_is =
+      booleans_combined
+      ∙ ap (λ (n : ℕ). zip2 op (booleans left len) (booleans right n)) same
+      ∙ ap (λ (xs : List Bool). zip2 op xs (booleans right other_len)) mask_is
+      ∙ ap (zip2 op mask) other_is
 
 pub booleans_flipped : (words made : List ℕ) (len : ℕ) → length words ≡ len / 64 + 1 → (same_length : length made ≡ length words) → ((k : ℕ) → k < length words → get_or words k 0 < 2 ^ 64)
     → ((k : ℕ) → k < length words → get_or made k 0 ≡ bit_not w64 (get_or words k 0)) → booleans (cut_words made len) len ≡ map not (booleans words len)

@@ -1,18 +1,18 @@
-use Rattle.std.proofs.Common.{◌≡◌, ◌/◌, ◌%◌, ◌^◌, ap, ◌∙◌, sym, ℕ, List, Bool, get_or, take, drop, length, arith, bit_and}
+use Rattle.std.proofs.Common.{◌≡◌, ◌/◌, ◌%◌, ◌^◌, ap, ◌∙◌, ℕ, List, Bool, get_or, take, drop, arith, bit_and}
 use Rattle.std.proofs.lemmas.List.{get_or_read}
 use lib.Lanes.{mask_l}
-use Rattle.bit_masks.proofs.Places.{length-booleans}
+use Rattle.bit_masks.proofs.Places.{length_of}
 use Rattle.bit_masks.proofs.Parts.{bits_are}
 use Rattle.bit_masks.proofs.mask.Mask.bits.Goals as goal
 
 pub index-requires : goal.index-requires
 index-requires c =
-    let long : length c.args.self.now ≡ c.self.inside.len = ap length (sym c.self.view_is) ∙ length-booleans c.self.inside.words.items c.self.inside.len in
+    let long = length_of c.self.inside.words.items c.self.inside.len c.args.self.now c.self.view_is in
     omega arith
 
 pub returns : goal.returns
 returns c =
-    let long : length c.args.self.now ≡ c.self.inside.len = ap length (sym c.self.view_is) ∙ length-booleans c.self.inside.words.items c.self.inside.len in
+    let long = length_of c.self.inside.words.items c.self.inside.len c.args.self.now c.self.view_is in
     let words = c.self.inside.words.items in
     let is : c.index.result.now ≡ get_or words (c.args.start / 64) 0 = get_or_read words (c.args.start / 64) c.index.result.now (omega arith) c.index.ensures 0 in
     ap (λ (w : ℕ). bit_and (w / 2 ^ (c.args.start % 64)) c.low_ones.result) is

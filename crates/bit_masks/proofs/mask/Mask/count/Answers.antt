@@ -1,7 +1,7 @@
-use Rattle.std.proofs.Common.{rules, count_by, count_ones, ◌≡◌, ◌<◌, ◌^◌, ap, ◌∙◌, sym, subst, refl, ℕ, List, get_or, arith, Fits, w64}
+use Rattle.std.proofs.Common.{rules, count_by, count_ones, ◌≡◌, ◌<◌, ◌^◌, ap, ◌∙◌, sym, subst, refl, ℕ, List, get_or, arith}
 use Rattle.std.specs.List.{sum_by}
 use Rattle.bit_masks.specs.Masks.{booleans}
-use Rattle.bit_masks.proofs.Places.{length-booleans}
+use Rattle.bit_masks.proofs.Places.{length-booleans, words_fit}
 use Rattle.bit_masks.proofs.Counts.{count_is}
 use Rattle.std.proofs.lemmas.List.Sums.{count_by-le-length}
 use Rattle.bit_masks.proofs.mask.Mask.count.Goals as goal
@@ -22,8 +22,7 @@ returns-then-self-eq0 c = subst (λ (n : ℕ). 0 ≡ count_by (λ b. b) (boolean
 pub returns : goal.returns
 returns c =
     let words = c.self.inside.words.items in
-    let fits : (k : ℕ) → Fits w64 (get_or c.as_slice-words.result.now k 0) = search rules in
-    let fit : (k : ℕ) → get_or words k 0 < 2 ^ 64 = λ k. subst (λ (ws : List ℕ). get_or ws k 0 < 2 ^ 64) c.as_slice-words.ensures.value (fits k).fits in
+    let fit = words_fit c.as_slice-words.result.now words c.as_slice-words.ensures.value (search rules) in
     c.ones.ensures
     ∙ ap (sum_by count_ones) c.as_slice-words.ensures.value
     ∙ count_is words c.self.inside.len c.self.invariant.0 fit c.self.invariant.1

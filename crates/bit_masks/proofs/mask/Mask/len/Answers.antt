@@ -1,6 +1,6 @@
-use Rattle.std.proofs.Common.{ap, ◌∙◌, sym, length}
-use Rattle.bit_masks.proofs.Places.{length-booleans}
+use Rattle.std.proofs.Common.{sym}
+use Rattle.bit_masks.proofs.Places.{length_of}
 use Rattle.bit_masks.proofs.mask.Mask.len.Goals as goal
 
 pub returns : goal.returns
-returns c = sym (ap length (sym c.self.view_is) ∙ length-booleans c.self.inside.words.items c.self.inside.len)
+returns c = sym (length_of c.self.inside.words.items c.self.inside.len c.args.self.now c.self.view_is)

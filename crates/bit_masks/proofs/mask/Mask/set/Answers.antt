@@ -1,22 +1,22 @@
-use Rattle.std.proofs.Common.{◌≡◌, ◌/◌, ap, ◌∙◌, sym, ℕ, List, Bool, get_or, set, length, arith, length-set}
+use Rattle.std.proofs.Common.{◌≡◌, ◌/◌, ap, ◌∙◌, ℕ, List, Bool, get_or, set, arith, length-set}
 use Rattle.std.proofs.lemmas.List.{get_or_read}
 use Rattle.std.specs.Int.{bit_at}
-use Rattle.bit_masks.proofs.Places.{length-booleans, booleans_set, is_set_kept}
+use Rattle.bit_masks.proofs.Places.{length_of, booleans_set, is_set_kept}
 use Rattle.bit_masks.proofs.mask.Mask.set.Goals as goal
 
 pub index-requires : goal.index-requires
 index-requires c =
-    let long : length c.args.self.now ≡ c.self.inside.len = ap length (sym c.self.view_is) ∙ length-booleans c.self.inside.words.items c.self.inside.len in
+    let long = length_of c.self.inside.words.items c.self.inside.len c.args.self.now c.self.view_is in
     omega arith
 
 pub index_mut-requires : goal.index_mut-requires
 index_mut-requires c =
-    let long : length c.args.self.now ≡ c.self.inside.len = ap length (sym c.self.view_is) ∙ length-booleans c.self.inside.words.items c.self.inside.len in
+    let long = length_of c.self.inside.words.items c.self.inside.len c.args.self.now c.self.view_is in
     omega arith
 
 pub invariant_of-self : goal.invariant_of-self
 invariant_of-self c =
-    let long : length c.args.self.now ≡ c.self.inside.len = ap length (sym c.self.view_is) ∙ length-booleans c.self.inside.words.items c.self.inside.len in
+    let long = length_of c.self.inside.words.items c.self.inside.len c.args.self.now c.self.view_is in
     let words = c.self.inside.words.items in
     let is : c.index.result.now ≡ get_or words (c.args.place / 64) 0 = get_or_read words (c.args.place / 64) c.index.result.now (omega arith) c.index.ensures 0 in (
       length-set words (c.args.place / 64) _ ∙ c.self.invariant.0,
@@ -27,7 +27,7 @@ invariant_of-self c =
 
 pub returns : goal.returns
 returns c =
-    let long : length c.args.self.now ≡ c.self.inside.len = ap length (sym c.self.view_is) ∙ length-booleans c.self.inside.words.items c.self.inside.len in
+    let long = length_of c.self.inside.words.items c.self.inside.len c.args.self.now c.self.view_is in
     let words = c.self.inside.words.items in
     let is : c.index.result.now ≡ get_or words (c.args.place / 64) 0 = get_or_read words (c.args.place / 64) c.index.result.now (omega arith) c.index.ensures 0 in
     booleans_set words c.args.place c.with_bit-word.result (omega arith)
