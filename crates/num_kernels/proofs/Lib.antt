@@ -3,3 +3,4 @@ pub mod Numbers
 pub mod Puts
 pub mod Quotients
 pub mod Steps
+pub mod Wholes

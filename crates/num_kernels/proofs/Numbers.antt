@@ -21,6 +21,9 @@ pub fits_holds : (w : Width) (z : ℤ) → SFits w z → holds w z ≡ true
 fits_holds w (pos n) f = lt-ltb n (2 ^ hbits w) f.sfits
 fits_holds w (negsuc n) f = lt-ltb n (2 ^ hbits w) f.sfits
 
+pub not_less : (x y : ℤ) → not (int_lt x y) ≡ int_le y x
+not_less x y = grind (arith, ints)
+
 module _ (w : Width) (x y : ℤ) (fx : SFits w x) (fy : SFits w y) where
   pub le_is : int_le (to_z w (of_z w x)) (to_z w (of_z w y)) ≡ int_le x y
   le_is = ap (λ (z : ℤ). int_le z (to_z w (of_z w y))) (to_z-of_z w x fx) ∙ ap (int_le x) (to_z-of_z w y fy)
