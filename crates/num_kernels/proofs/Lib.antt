@@ -1,4 +1,5 @@
 pub mod Bits
+pub mod Marked
 pub mod Numbers
 pub mod Puts
 pub mod Quotients

@@ -1,18 +1,6 @@
-use Rattle.std.proofs.Common.{◌+◌, ◌≤◌, ◌∙◌, arith, w32}
-use Rattle.std.specs.Int.RustNames.{int_lt}
-use mir.Val.{to_z}
-use Rattle.num_folds.specs.Lanes.{at}
-use Rattle.num_folds.proofs.Lanes.{lane_bit, lane_loaded}
-use Rattle.num_folds.proofs.Lanes.{lt_is}
+use Rattle.std.proofs.Common.{w32}
+use Rattle.num_kernels.proofs.Marked.{less_marked}
 use Rattle.num_kernels.proofs.ints.I32Number.less_lanes.Goals as goal
 
 pub returns : goal.returns
-returns g c = λ k below.
-    let x = at c.args.left.now (c.args.start + k) in
-    let y = at c.args.right.now (c.args.start + k) in
-    let fx = c.requires.fit_left k below in
-    let fy = c.requires.fit_right k below in
-    let few : g.row.N ≤ 64 = omega arith in
-    let left = lane_loaded below w32 c.args.left.now c.args.start c.requires.room_left in
-    let right = lane_loaded below w32 c.args.right.now c.args.start c.requires.room_right in
-    lane_bit below w32 (λ a b. int_lt (to_z w32 a) (to_z w32 b)) left right few ∙ lt_is w32 x y fx fy
+returns g c = less_marked w32 c.requires

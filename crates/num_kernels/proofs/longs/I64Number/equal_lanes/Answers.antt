@@ -1,16 +1,6 @@
-use Rattle.std.proofs.Common.{◌+◌, ◌≤◌, ◌∙◌, eqb, arith, w64}
-use Rattle.num_folds.specs.Lanes.{at}
-use Rattle.num_folds.proofs.Lanes.{lane_bit, lane_loaded}
-use Rattle.num_kernels.proofs.Numbers.{eq_is_64}
+use Rattle.std.proofs.Common.{w64}
+use Rattle.num_kernels.proofs.Marked.{equal_marked}
 use Rattle.num_kernels.proofs.longs.I64Number.equal_lanes.Goals as goal
 
 pub returns : goal.returns
-returns g c = λ k below.
-    let x = at c.args.left.now (c.args.start + k) in
-    let y = at c.args.right.now (c.args.start + k) in
-    let fx = c.requires.fit_left k below in
-    let fy = c.requires.fit_right k below in
-    let few : g.row.N ≤ 64 = omega arith in
-    let left = lane_loaded below w64 c.args.left.now c.args.start c.requires.room_left in
-    let right = lane_loaded below w64 c.args.right.now c.args.start c.requires.room_right in
-    lane_bit below w64 eqb left right few ∙ eq_is_64 x y fx fy
+returns g c = equal_marked w64 c.requires
