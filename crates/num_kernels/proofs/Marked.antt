@@ -6,10 +6,10 @@ use lib.IntN.{ℤ}
 use lib.Lanes.{zip2, mask_l, top, chunk}
 use mir.Syntax.{Width}
 use mir.Val.{bits, hbits, of_z, to_z}
-use Rattle.num_folds.specs.Lanes.{Marks, at}
+use Rattle.num_folds.specs.Lanes.{at}
 use Rattle.num_folds.proofs.Lanes.{Lane, lane_bit, lane_loaded, lane_splat, lane_zip, lt_is, and_bits}
 use Rattle.num_kernels.specs.Numbers.{add, sub, div, mod_of, fails}
-use Rattle.num_kernels.specs.Steps.{CanLoad}
+use Rattle.num_kernels.specs.Steps.{CanLoad, MarksPairs}
 use Rattle.num_kernels.proofs.Bits.{or_bits, xor_bits}
 use Rattle.num_kernels.proofs.Numbers.{eq_is, sum_overflows, difference_overflows}
 use Rattle.num_kernels.proofs.Quotients.{quotient_fails_is, remainder_fails_is}
@@ -36,38 +36,35 @@ module _ (w : Width) {n start : ℕ} {left right : List ℤ} (load : CanLoad w n
     pub right_lane : Lane n (lanes_of w n start right) k (of_z w (at right (start + k)))
     right_lane = lane_loaded below w right start load.room_right
 
-  pub equal_marked : Marks n (bits_where w eqb (lanes_of w n start left) (lanes_of w n start right)) (λ k. int_eq (at left (start + k)) (at right (start + k)))
+  pub equal_marked : MarksPairs int_eq n start left right (bits_where w eqb (lanes_of w n start left) (lanes_of w n start right))
   equal_marked = λ k below. lane_bit below w eqb (left_lane below) (right_lane below) few ∙ eq_is w _ _ (load.fit_left k below) (load.fit_right k below)
 
-  pub less_marked : Marks n (bits_where w (is_less w) (lanes_of w n start left) (lanes_of w n start right)) (λ k. int_lt (at left (start + k)) (at right (start + k)))
+  pub less_marked : MarksPairs int_lt n start left right (bits_where w (is_less w) (lanes_of w n start left) (lanes_of w n start right))
   less_marked = λ k below. lane_bit below w (is_less w) (left_lane below) (right_lane below) few ∙ lt_is w _ _ (load.fit_left k below) (load.fit_right k below)
 
-  pub sums_marked : Marks n
+  pub sums_marked : MarksPairs (fails w add) n start left right
       (bit_xor (bits_where w (is_less w) (lanes_of w n start right) (replicate n 0))
-        (bits_where w (is_less w) (zip2 (λ a b. (a + b) % 2 ^ bits w) (lanes_of w n start left) (lanes_of w n start right)) (lanes_of w n start left)))
-      (λ k. fails w add (at left (start + k)) (at right (start + k)))
+      (bits_where w (is_less w) (zip2 (λ a b. (a + b) % 2 ^ bits w) (lanes_of w n start left) (lanes_of w n start right)) (lanes_of w n start left)))
   sums_marked = λ k below.
       xor_bits _ _ k (lane_bit below w (is_less w) (right_lane below) (lane_splat below 0) few)
       (lane_bit below w (is_less w) (lane_zip below (λ a b. (a + b) % 2 ^ bits w) (left_lane below) (right_lane below)) (left_lane below) few)
       ∙ sum_overflows w _ _ (load.fit_left k below) (load.fit_right k below)
 
-  pub differences_marked : Marks n
+  pub differences_marked : MarksPairs (fails w sub) n start left right
       (bit_xor (bits_where w (is_less w) (lanes_of w n start right) (replicate n 0))
-        (bits_where w (is_less w) (lanes_of w n start left) (zip2 (λ a b. (a + (2 ^ bits w - b)) % 2 ^ bits w) (lanes_of w n start left) (lanes_of w n start right))))
-      (λ k. fails w sub (at left (start + k)) (at right (start + k)))
+      (bits_where w (is_less w) (lanes_of w n start left) (zip2 (λ a b. (a + (2 ^ bits w - b)) % 2 ^ bits w) (lanes_of w n start left) (lanes_of w n start right))))
   differences_marked = λ k below.
       xor_bits _ _ k (lane_bit below w (is_less w) (right_lane below) (lane_splat below 0) few)
       (lane_bit below w (is_less w) (left_lane below) (lane_zip below (λ a b. (a + (2 ^ bits w - b)) % 2 ^ bits w) (left_lane below) (right_lane below)) few)
       ∙ difference_overflows w _ _ (load.fit_left k below) (load.fit_right k below)
 
-  pub quotients_marked : Marks n
+  pub quotients_marked : MarksPairs (fails w div) n start left right
       (bit_or (bits_where w eqb (lanes_of w n start right) (replicate n 0))
-        (bit_and (bits_where w eqb (lanes_of w n start left) (replicate n (2 ^ hbits w))) (bits_where w eqb (lanes_of w n start right) (replicate n (2 ^ bits w - 1)))))
-      (λ k. fails w div (at left (start + k)) (at right (start + k)))
+      (bit_and (bits_where w eqb (lanes_of w n start left) (replicate n (2 ^ hbits w))) (bits_where w eqb (lanes_of w n start right) (replicate n (2 ^ bits w - 1)))))
   quotients_marked = λ k below.
       or_bits _ _ k (lane_bit below w eqb (right_lane below) (lane_splat below 0) few)
       (and_bits _ _ k (lane_bit below w eqb (left_lane below) (lane_splat below (2 ^ hbits w)) few) (lane_bit below w eqb (right_lane below) (lane_splat below (2 ^ bits w - 1)) few))
       ∙ quotient_fails_is w _ _ (load.fit_left k below) (load.fit_right k below)
 
-  pub remainders_marked : Marks n (bits_where w eqb (lanes_of w n start right) (replicate n 0)) (λ k. fails w mod_of (at left (start + k)) (at right (start + k)))
+  pub remainders_marked : MarksPairs (fails w mod_of) n start left right (bits_where w eqb (lanes_of w n start right) (replicate n 0))
   remainders_marked = λ k below. lane_bit below w eqb (right_lane below) (lane_splat below 0) few ∙ remainder_fails_is w _ _ (load.fit_left k below) (load.fit_right k below)

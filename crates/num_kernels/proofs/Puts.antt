@@ -1,6 +1,5 @@
 -- What the kernels put at n places: each lane's value, and what stays.
-use Rattle.std.proofs.Common.{◌≡◌, ℕ, zero, suc, ◌+◌, ◌-◌, ◌*◌, ◌%◌, ◌^◌, ◌<◌, ◌≤◌, false, cond, eqb, List, [], ◌∷◌, length, get_or, map, replicate, sym, ap, ◌∙◌, subst, arith}
-use Rattle.std.proofs.lemmas.Bool.{not-false}
+use Rattle.std.proofs.Common.{◌≡◌, ℕ, zero, suc, ◌+◌, ◌-◌, ◌^◌, ◌<◌, ◌≤◌, false, cond, eqb, List, [], ◌∷◌, length, get_or, map, replicate, sym, ap, ◌∙◌, subst, arith}
 use Rattle.std.proofs.lemmas.List.{get_or-map, length-map}
 use Rattle.std.proofs.lemmas.Simd.{length-put_chunk, get_or-put_chunk_at, get_or-put_chunk_below, get_or-put_chunk_above}
 use Rattle.std.specs.Int.{bit_at}
@@ -9,13 +8,12 @@ use lib.IntN.{ℤ, pos, negsuc}
 use lib.Lanes.{put_chunk, Each2, sel_l, zip2, top}
 use mir.Syntax.{Width}
 use mir.Val.{bits, hbits, of_z, to_z, SFits}
-use Rattle.num_kernels.specs.Numbers.{add, sub, mul, div, mod_of, exact, fails}
-use Rattle.num_kernels.specs.Steps.{CanLoad, IsFine, IsPut}
+use Rattle.num_kernels.specs.Numbers.{div, mod_of, exact, fails}
+use Rattle.num_kernels.specs.Steps.{CanLoad, CanPut, IsPut}
 use Rattle.num_folds.specs.Lanes.{Holds, at}
 use Rattle.num_folds.proofs.Lanes.{Lane, lane_select, lane_splat, lane_zip}
 use Rattle.num_folds.proofs.Marks.{lane_pick, chosen_value}
 use Rattle.num_kernels.proofs.Marked.{lanes_of, left_lane, right_lane}
-use Rattle.num_kernels.proofs.Numbers.{sum_value, difference_value, product_value}
 use Rattle.num_kernels.proofs.Quotients.{divisor_of, quotient_asks, quotient_value, remainder_asks, remainder_value}
 
 -- a fact of each pair of lanes
@@ -68,57 +66,49 @@ module _ (w : Width) (n start fine : ℕ) (left right marks : List ℤ) (load : 
   divisor below = chosen below (right_lane w load below) (lane_splat below 1)
 
   -- results that are 0 at a lane that is not fine
-  module _ (op : ℕ) (f : ℕ → ℕ → ℕ) (value : (x y : ℤ) → SFits w x → SFits w y → fails w op x y ≡ false → to_z w (f (of_z w x) (of_z w y)) ≡ exact op x y) where
-    chosen_put : (old : List ℤ) → IsFine w op n start fine left right → start + n ≤ length old
-        → IsPut op n start fine left right old (put_chunk start old (map (to_z w) (chosen_of w marks (zip2 f (lanes_of w n start left) (lanes_of w n start right)) (replicate n 0))))
-    chosen_put old sound room = put_is w op n start fine left right old _ load.some room (λ k below. (
-      _,
-      chosen below (lane_zip below f (left_lane w load below) (right_lane w load below)) (lane_splat below 0),
-      chosen_value w (eqb (bit_at fine k) 1) _ (exact op (at left (start + k)) (at right (start + k))) (λ is. value _ _ (load.fit_left k below) (load.fit_right k below) (sound.sound k below is)),
-    ))
-
-  pub sums_put : (old : List ℤ) → IsFine w add n start fine left right → start + n ≤ length old
-      → IsPut add n start fine left right old (put_chunk start old (map (to_z w) (chosen_of w marks (zip2 (λ a b. (a + b) % 2 ^ bits w) (lanes_of w n start left) (lanes_of w n start right)) (replicate n 0))))
-  sums_put = chosen_put add (λ a b. (a + b) % 2 ^ bits w) (λ x y fx fy is. sum_value w x y fx fy (not-false _ is))
-
-  pub differences_put : (old : List ℤ) → IsFine w sub n start fine left right → start + n ≤ length old
-      → IsPut sub n start fine left right old (put_chunk start old (map (to_z w) (chosen_of w marks (zip2 (λ a b. (a + (2 ^ bits w - b)) % 2 ^ bits w) (lanes_of w n start left) (lanes_of w n start right)) (replicate n 0))))
-  differences_put = chosen_put sub (λ a b. (a + (2 ^ bits w - b)) % 2 ^ bits w) (λ x y fx fy is. difference_value w x y fx fy (not-false _ is))
-
-  pub products_put : (old : List ℤ) → IsFine w mul n start fine left right → start + n ≤ length old
-      → IsPut mul n start fine left right old (put_chunk start old (map (to_z w) (chosen_of w marks (zip2 (λ a b. (a * b) % 2 ^ bits w) (lanes_of w n start left) (lanes_of w n start right)) (replicate n 0))))
-  products_put = chosen_put mul (λ a b. (a * b) % 2 ^ bits w) (λ x y fx fy is. product_value w x y fx fy (not-false _ is))
+  pub chosen_put : (op : ℕ) (old : List ℤ) → CanPut w op n start fine left right old → (f : ℕ → ℕ → ℕ)
+      → ((x y : ℤ) → SFits w x → SFits w y → fails w op x y ≡ false → to_z w (f (of_z w x) (of_z w y)) ≡ exact op x y)
+      → IsPut op n start fine left right old (put_chunk start old (map (to_z w) (chosen_of w marks (zip2 f (lanes_of w n start left) (lanes_of w n start right)) (replicate n 0))))
+  chosen_put op old can f value = put_is w op n start fine left right old _ load.some can.room (λ k below. (
+    _,
+    chosen below (lane_zip below f (left_lane w load below) (right_lane w load below)) (lane_splat below 0),
+    chosen_value w (eqb (bit_at fine k) 1) _ (exact op (at left (start + k)) (at right (start + k))) (λ is. value _ _ (load.fit_left k below) (load.fit_right k below) (can.sound k below is)),
+  ))
 
   module _ (one : 1 < 2 ^ hbits w) where
-    module _ (sound : IsFine w div n start fine left right) where
+    module _ (old : List ℤ) (can : CanPut w div n start fine left right old) where
       pub quotients_ask : Each2 (λ a b. (0 < b) × SFits w (int_div (to_z w a) (to_z w b))) (chosen_of w marks (lanes_of w n start left) (replicate n 0)) (chosen_of w marks (lanes_of w n start right) (replicate n 1))
       quotients_ask = each_lanes _ n _ _ load.some (λ k below. (
-        _, _, dividend below, divisor below,
-        quotient_asks w _ _ (load.fit_left k below) (load.fit_right k below) one (eqb (bit_at fine k) 1) (sound.sound k below),
+        _,
+        _,
+        dividend below,
+        divisor below,
+        quotient_asks w _ _ (load.fit_left k below) (load.fit_right k below) one (eqb (bit_at fine k) 1) (can.sound k below),
       ))
 
-      pub quotients_put : (old : List ℤ) → start + n ≤ length old
-          → IsPut div n start fine left right old (put_chunk start old (map (to_z w) (zip2 (λ a b. of_z w (int_div (to_z w a) (to_z w b))) (chosen_of w marks (lanes_of w n start left) (replicate n 0)) (chosen_of w marks (lanes_of w n start right) (replicate n 1)))))
-      quotients_put old room = put_is w div n start fine left right old _ load.some room (λ k below. (
+      pub quotients_put : IsPut div n start fine left right old (put_chunk start old (map (to_z w) (zip2 (λ a b. of_z w (int_div (to_z w a) (to_z w b))) (chosen_of w marks (lanes_of w n start left) (replicate n 0)) (chosen_of w marks (lanes_of w n start right) (replicate n 1)))))
+      quotients_put = put_is w div n start fine left right old _ load.some can.room (λ k below. (
         _,
         lane_zip below (λ a b. of_z w (int_div (to_z w a) (to_z w b))) (dividend below) (divisor below),
-        quotient_value w _ _ (load.fit_left k below) (load.fit_right k below) one (eqb (bit_at fine k) 1) (sound.sound k below),
+        quotient_value w _ _ (load.fit_left k below) (load.fit_right k below) one (eqb (bit_at fine k) 1) (can.sound k below),
       ))
 
     turned : {k : ℕ} (below : k < n) → Lane n (turned_of w n (chosen_of w marks (lanes_of w n start right) (replicate n 1))) k (divisor_of w (at left (start + k)) (at right (start + k)) (load.fit_left k below) (load.fit_right k below) one (eqb (bit_at fine k) 1))
     turned below = lane_select below w eqb (divisor below) (lane_splat below (2 ^ bits w - 1)) (lane_splat below 1) (divisor below)
 
-    module _ (sound : IsFine w mod_of n start fine left right) where
+    module _ (old : List ℤ) (can : CanPut w mod_of n start fine left right old) where
       pub remainders_ask : Each2 (λ a b. (0 < b) × SFits w (int_div (to_z w a) (to_z w b))) (chosen_of w marks (lanes_of w n start left) (replicate n 0)) (turned_of w n (chosen_of w marks (lanes_of w n start right) (replicate n 1)))
       remainders_ask = each_lanes _ n _ _ load.some (λ k below. (
-        _, _, dividend below, turned below,
-        remainder_asks w _ _ (load.fit_left k below) (load.fit_right k below) one (eqb (bit_at fine k) 1) (sound.sound k below),
+        _,
+        _,
+        dividend below,
+        turned below,
+        remainder_asks w _ _ (load.fit_left k below) (load.fit_right k below) one (eqb (bit_at fine k) 1) (can.sound k below),
       ))
 
-      pub remainders_put : (old : List ℤ) → start + n ≤ length old
-          → IsPut mod_of n start fine left right old (put_chunk start old (map (to_z w) (zip2 (λ a b. of_z w (int_rem (to_z w a) (to_z w b))) (chosen_of w marks (lanes_of w n start left) (replicate n 0)) (turned_of w n (chosen_of w marks (lanes_of w n start right) (replicate n 1))))))
-      remainders_put old room = put_is w mod_of n start fine left right old _ load.some room (λ k below. (
+      pub remainders_put : IsPut mod_of n start fine left right old (put_chunk start old (map (to_z w) (zip2 (λ a b. of_z w (int_rem (to_z w a) (to_z w b))) (chosen_of w marks (lanes_of w n start left) (replicate n 0)) (turned_of w n (chosen_of w marks (lanes_of w n start right) (replicate n 1))))))
+      remainders_put = put_is w mod_of n start fine left right old _ load.some can.room (λ k below. (
         _,
         lane_zip below (λ a b. of_z w (int_rem (to_z w a) (to_z w b))) (dividend below) (turned below),
-        remainder_value w _ _ (load.fit_left k below) (load.fit_right k below) one (eqb (bit_at fine k) 1) (sound.sound k below),
+        remainder_value w _ _ (load.fit_left k below) (load.fit_right k below) one (eqb (bit_at fine k) 1) (can.sound k below),
       ))

@@ -50,8 +50,8 @@ abbrev pub fails : Width → ℕ → ℤ → ℤ → Bool
 fails w op left right = (divides op && int_eq right (pos 0)) || not (holds w (exact op left right))
 
 -- the result of an operation, and None where it fails
-abbrev pub answer : Width → ℕ → ℤ → ℤ → Option ℤ
-answer w op left right = if fails w op left right then None else Some (exact op left right)
+abbrev pub checked : Width → ℕ → ℤ → ℤ → Option ℤ
+checked w op left right = if fails w op left right then None else Some (exact op left right)
 
 -- what a place gets: the result where it is valid and does not fail, and else 0
 abbrev pub result_at : Width → ℕ → Bool → ℤ → ℤ → ℤ

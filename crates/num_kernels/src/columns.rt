@@ -1,8 +1,8 @@
 // The kernels over columns of any numbers.
 ghost use Rattle.std.specs.Prelude.{◌≡◌, ℕ, ◌+◌, ◌<◌, ◌≤◌, ◌&&◌, length, option_map};
-ghost use Rattle.num_kernels.specs.Numbers.{IsArithmetic, IsComparison, answer, compares, fails, result_at};
-ghost use Rattle.num_kernels.specs.Steps.{CanLoad, IsFine, IsPut};
-ghost use Rattle.num_folds.specs.Lanes.{IsLaneCount, Marks, at, set_at};
+ghost use Rattle.num_kernels.specs.Numbers.{IsArithmetic, IsComparison, checked, compares, fails, result_at};
+ghost use Rattle.num_kernels.specs.Steps.{CanLoad, CanPut, IsPut, MarksPairs};
+ghost use Rattle.num_folds.specs.Lanes.{IsLaneCount, at, set_at};
 
 use crate::constants::{ADD, DIV, EQ, GT, LE, LT, MUL, NE, SUB};
 use crate::number::Number;
@@ -17,7 +17,7 @@ fn lanes_fail<T: Number<N>, const OP: u8, const N: usize>(
     start: usize,
 ) -> u64
     requires { IsArithmetic OP × CanLoad T.width N start (T.wholes left.now) (T.wholes right.now) }
-    ensures { Marks N result (λ k. fails T.width OP (at (T.wholes left.now) (start + k)) (at (T.wholes right.now) (start + k))) }
+    ensures { MarksPairs (fails T.width OP) N start (T.wholes left.now) (T.wholes right.now) result }
 {
     arith_by!(
         OP,
@@ -38,7 +38,7 @@ fn put<T: Number<N>, const OP: u8, const N: usize>(
     fine: u64,
     to: &mut [T],
 )
-    requires { IsArithmetic OP × CanLoad T.width N start (T.wholes left.now) (T.wholes right.now) × IsFine T.width OP N start fine (T.wholes left.now) (T.wholes right.now) × (start + N ≤ length to.old) }
+    requires { IsArithmetic OP × CanPut T.width OP N start fine (T.wholes left.now) (T.wholes right.now) (T.wholes to.old) }
     ensures { IsPut OP N start fine (T.wholes left.now) (T.wholes right.now) (T.wholes to.old) (T.wholes to.new) }
 {
     arith_by!(
@@ -53,7 +53,7 @@ fn put<T: Number<N>, const OP: u8, const N: usize>(
 
 fn arith<T: Number<N>, const OP: u8, const N: usize>(left: T, right: T) -> Option<T>
     requires { IsArithmetic OP }
-    ensures { option_map T.whole result ≡ answer T.width OP (T.whole left) (T.whole right) }
+    ensures { option_map T.whole result ≡ checked T.width OP (T.whole left) (T.whole right) }
 {
     arith_by!(
         OP,
@@ -104,7 +104,7 @@ fn arith_rest<T: Number<N>, const OP: u8, const N: usize>(
 }
 
 /// Arithmetic at each place, `N` places at a time.
-pub fn arith_columns<T: Number<N>, const OP: u8, const N: usize>(
+pub(crate) fn arith_columns<T: Number<N>, const OP: u8, const N: usize>(
     left: &[T],
     right: &[T],
     valid: &Mask,
@@ -138,7 +138,7 @@ fn compare_lanes<T: Number<N>, const OP: u8, const N: usize>(
     start: usize,
 ) -> u64
     requires { IsComparison OP × CanLoad T.width N start (T.wholes left.now) (T.wholes right.now) }
-    ensures { Marks N result (λ k. compares OP (at (T.wholes left.now) (start + k)) (at (T.wholes right.now) (start + k))) }
+    ensures { MarksPairs (compares OP) N start (T.wholes left.now) (T.wholes right.now) result }
 {
     compare_by!(
         OP,
@@ -193,7 +193,7 @@ fn compare_rest<T: Number<N>, const OP: u8, const N: usize>(
 }
 
 /// Compares at each place, `N` places at a time.
-pub fn compare_columns<T: Number<N>, const OP: u8, const N: usize>(
+pub(crate) fn compare_columns<T: Number<N>, const OP: u8, const N: usize>(
     left: &[T],
     right: &[T],
     valid: &Mask,

@@ -3,12 +3,12 @@ ghost use Rattle.std.specs.Prelude.{◌≡◌, ℕ, ℤ, ◌+◌, ◌<◌, ◌�
 ghost use Rattle.std.specs.Int.{Width};
 ghost use Rattle.std.specs.Int.RustNames.{int_lt};
 ghost use Rattle.std.specs.Ordering.{int_eq};
-ghost use Rattle.num_kernels.specs.Numbers.{add, sub, mul, div, mod_of, answer, fails};
-ghost use Rattle.num_kernels.specs.Steps.{CanLoad, IsFine, IsPut};
-ghost use Rattle.num_folds.specs.Lanes.{Marks, at};
+ghost use Rattle.num_kernels.specs.Numbers.{add, sub, mul, div, mod_of, checked, fails};
+ghost use Rattle.num_kernels.specs.Steps.{CanLoad, CanPut, IsPut, MarksPairs};
+ghost use Rattle.num_folds.specs.Lanes.{at};
 
 /// Numbers of one width, of which a step over lanes takes `N`.
-pub trait Number<const N: usize>: Copy {
+pub(crate) trait Number<const N: usize>: Copy {
     /// The width of the numbers.
     ghost width: { Width };
 
@@ -26,57 +26,57 @@ pub trait Number<const N: usize>: Copy {
     /// At which lanes the two are equal.
     fn equal_lanes(left: &[Self], right: &[Self], start: usize) -> u64
         requires { CanLoad width N start (wholes left.now) (wholes right.now) }
-        ensures { Marks N result (λ k. int_eq (at (wholes left.now) (start + k)) (at (wholes right.now) (start + k))) };
+        ensures { MarksPairs int_eq N start (wholes left.now) (wholes right.now) result };
 
     /// At which lanes the left number is less.
     fn less_lanes(left: &[Self], right: &[Self], start: usize) -> u64
         requires { CanLoad width N start (wholes left.now) (wholes right.now) }
-        ensures { Marks N result (λ k. int_lt (at (wholes left.now) (start + k)) (at (wholes right.now) (start + k))) };
+        ensures { MarksPairs int_lt N start (wholes left.now) (wholes right.now) result };
 
     /// At which lanes the sum overflows.
     fn sum_fails(left: &[Self], right: &[Self], start: usize) -> u64
         requires { CanLoad width N start (wholes left.now) (wholes right.now) }
-        ensures { Marks N result (λ k. fails width add (at (wholes left.now) (start + k)) (at (wholes right.now) (start + k))) };
+        ensures { MarksPairs (fails width add) N start (wholes left.now) (wholes right.now) result };
 
     /// At which lanes the difference overflows.
     fn difference_fails(left: &[Self], right: &[Self], start: usize) -> u64
         requires { CanLoad width N start (wholes left.now) (wholes right.now) }
-        ensures { Marks N result (λ k. fails width sub (at (wholes left.now) (start + k)) (at (wholes right.now) (start + k))) };
+        ensures { MarksPairs (fails width sub) N start (wholes left.now) (wholes right.now) result };
 
     /// At which lanes the product overflows.
     fn product_fails(left: &[Self], right: &[Self], start: usize) -> u64
         requires { CanLoad width N start (wholes left.now) (wholes right.now) }
-        ensures { Marks N result (λ k. fails width mul (at (wholes left.now) (start + k)) (at (wholes right.now) (start + k))) };
+        ensures { MarksPairs (fails width mul) N start (wholes left.now) (wholes right.now) result };
 
     /// At which lanes the quotient fails: at a zero divisor, and at the least number divided by -1.
     fn quotient_fails(left: &[Self], right: &[Self], start: usize) -> u64
         requires { CanLoad width N start (wholes left.now) (wholes right.now) }
-        ensures { Marks N result (λ k. fails width div (at (wholes left.now) (start + k)) (at (wholes right.now) (start + k))) };
+        ensures { MarksPairs (fails width div) N start (wholes left.now) (wholes right.now) result };
 
     /// At which lanes the remainder fails: at a zero divisor.
     fn remainder_fails(left: &[Self], right: &[Self], start: usize) -> u64
         requires { CanLoad width N start (wholes left.now) (wholes right.now) }
-        ensures { Marks N result (λ k. fails width mod_of (at (wholes left.now) (start + k)) (at (wholes right.now) (start + k))) };
+        ensures { MarksPairs (fails width mod_of) N start (wholes left.now) (wholes right.now) result };
 
     /// Writes the sums of the lanes that are fine, and 0 at the others; so do the next four with the other results.
     fn put_sums(left: &[Self], right: &[Self], start: usize, fine: u64, to: &mut [Self])
-        requires { CanLoad width N start (wholes left.now) (wholes right.now) × IsFine width add N start fine (wholes left.now) (wholes right.now) × (start + N ≤ length to.old) }
+        requires { CanPut width add N start fine (wholes left.now) (wholes right.now) (wholes to.old) }
         ensures { IsPut add N start fine (wholes left.now) (wholes right.now) (wholes to.old) (wholes to.new) };
 
     fn put_differences(left: &[Self], right: &[Self], start: usize, fine: u64, to: &mut [Self])
-        requires { CanLoad width N start (wholes left.now) (wholes right.now) × IsFine width sub N start fine (wholes left.now) (wholes right.now) × (start + N ≤ length to.old) }
+        requires { CanPut width sub N start fine (wholes left.now) (wholes right.now) (wholes to.old) }
         ensures { IsPut sub N start fine (wholes left.now) (wholes right.now) (wholes to.old) (wholes to.new) };
 
     fn put_products(left: &[Self], right: &[Self], start: usize, fine: u64, to: &mut [Self])
-        requires { CanLoad width N start (wholes left.now) (wholes right.now) × IsFine width mul N start fine (wholes left.now) (wholes right.now) × (start + N ≤ length to.old) }
+        requires { CanPut width mul N start fine (wholes left.now) (wholes right.now) (wholes to.old) }
         ensures { IsPut mul N start fine (wholes left.now) (wholes right.now) (wholes to.old) (wholes to.new) };
 
     fn put_quotients(left: &[Self], right: &[Self], start: usize, fine: u64, to: &mut [Self])
-        requires { CanLoad width N start (wholes left.now) (wholes right.now) × IsFine width div N start fine (wholes left.now) (wholes right.now) × (start + N ≤ length to.old) }
+        requires { CanPut width div N start fine (wholes left.now) (wholes right.now) (wholes to.old) }
         ensures { IsPut div N start fine (wholes left.now) (wholes right.now) (wholes to.old) (wholes to.new) };
 
     fn put_remainders(left: &[Self], right: &[Self], start: usize, fine: u64, to: &mut [Self])
-        requires { CanLoad width N start (wholes left.now) (wholes right.now) × IsFine width mod_of N start fine (wholes left.now) (wholes right.now) × (start + N ≤ length to.old) }
+        requires { CanPut width mod_of N start fine (wholes left.now) (wholes right.now) (wholes to.old) }
         ensures { IsPut mod_of N start fine (wholes left.now) (wholes right.now) (wholes to.old) (wholes to.new) };
 
     fn zero() -> Self
@@ -89,19 +89,19 @@ pub trait Number<const N: usize>: Copy {
         ensures { result ≡ int_lt (whole self) (whole right) };
 
     fn sum(self, right: Self) -> Option<Self>
-        ensures { option_map whole result ≡ answer width add (whole self) (whole right) };
+        ensures { option_map whole result ≡ checked width add (whole self) (whole right) };
 
     fn difference(self, right: Self) -> Option<Self>
-        ensures { option_map whole result ≡ answer width sub (whole self) (whole right) };
+        ensures { option_map whole result ≡ checked width sub (whole self) (whole right) };
 
     fn product(self, right: Self) -> Option<Self>
-        ensures { option_map whole result ≡ answer width mul (whole self) (whole right) };
+        ensures { option_map whole result ≡ checked width mul (whole self) (whole right) };
 
     fn quotient(self, right: Self) -> Option<Self>
-        ensures { option_map whole result ≡ answer width div (whole self) (whole right) };
+        ensures { option_map whole result ≡ checked width div (whole self) (whole right) };
 
     fn remainder(self, right: Self) -> Option<Self>
-        ensures { option_map whole result ≡ answer width mod_of (whole self) (whole right) };
+        ensures { option_map whole result ≡ checked width mod_of (whole self) (whole right) };
 
     ghost each: { (numbers : List Self) → wholes numbers ≡ map whole numbers };
 }

@@ -16,16 +16,20 @@ put-requires g c =
     let few = few_lanes g.row.N c.requires.1 in
     let failing = c.lanes_fail-failing in
     let marked = c.bits-marked in
-    let long_left = long g.T.Number.whole g.T.Number.wholes g.met.T.Number.each c.args.left.now in
-    let long_right = long g.T.Number.whole g.T.Number.wholes g.met.T.Number.each c.args.right.now in
-    let p : ℕ → Bool = λ k. fails g.T.Number.width g.row.OP (at (g.T.Number.wholes c.args.left.now) (start + k)) (at (g.T.Number.wholes c.args.right.now) (start + k)) in (
+    let whole = g.T.Number.whole in
+    let wholes = g.T.Number.wholes in
+    let each = g.met.T.Number.each in
+    let long_left = long whole wholes each c.args.left.now in
+    let long_right = long whole wholes each c.args.right.now in
+    let long_to = long whole wholes each c.loop-start.to in
+    let p : ℕ → Bool = λ k. fails g.T.Number.width g.row.OP (at (wholes c.args.left.now) (start + k)) (at (wholes c.args.right.now) (start + k)) in (
       c.requires.0,
-      (record { some = some_lanes g.row.N c.requires.1; few = few; room_left = omega arith; room_right = omega arith; fit_left = c.fit.ensures; fit_right = c.fit-in-loop-start.ensures }),
       record {
+        load = record { some = some_lanes g.row.N c.requires.1; few = few; room_left = omega arith; room_right = omega arith; fit_left = c.fit.ensures; fit_right = c.fit-in-loop-start.ensures };
+        room = omega arith;
         short = short_bits g.row.N c.requires.1 _ (bits_short valid start g.row.N marked.result marked.ensures (omega arith) (bit_not w64 failing.result));
         sound = λ k below is. fine_is_sound (set_at valid (start + k)) (p k) (sym (bit_where_not valid start g.row.N marked.result marked.ensures failing.result p failing.ensures k below few failing.type_inv) ∙ is);
       },
-      omega arith,
     )
 
 pub put_bits-requires : goal.put_bits-requires

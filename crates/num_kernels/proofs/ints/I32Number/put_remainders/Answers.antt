@@ -5,9 +5,9 @@ use Rattle.num_kernels.proofs.ints.I32Number.put_remainders.Goals as goal
 pub nonzero_rem-remainders : goal.nonzero_rem-remainders
 nonzero_rem-remainders g c =
     let one : 1 < 2 ^ 31 = omega arith in
-    remainders_ask w32 g.row.N c.args.start c.args.fine c.args.left.now c.args.right.now c.marks-marks.result c.requires.0 c.marks-marks.ensures one c.requires.1
+    remainders_ask w32 g.row.N c.args.start c.args.fine c.args.left.now c.args.right.now c.marks-marks.result c.requires.load c.marks-marks.ensures one c.args.to.now c.requires
 
 pub returns : goal.returns
 returns g c =
     let one : 1 < 2 ^ 31 = omega arith in
-    remainders_put w32 g.row.N c.args.start c.args.fine c.args.left.now c.args.right.now c.marks-marks.result c.requires.0 c.marks-marks.ensures one c.requires.1 c.args.to.now c.requires.2
+    remainders_put w32 g.row.N c.args.start c.args.fine c.args.left.now c.args.right.now c.marks-marks.result c.requires.load c.marks-marks.ensures one c.args.to.now c.requires
