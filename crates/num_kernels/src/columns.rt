@@ -5,13 +5,13 @@ ghost use Rattle.num_kernels.specs.Steps.{CanLoad, CanPut, IsPut, MarksPairs};
 ghost use Rattle.num_folds.specs.Lanes.{IsLaneCount, at, set_at};
 
 use crate::constants::{ADD, DIV, EQ, GT, LE, LT, MUL, NE, SUB};
-use crate::number::Number;
+use crate::operand::Operand;
 use crate::tables::{arith_by, compare_by};
 use bit_masks::Mask;
 
 /// At which lanes an operation fails.
 #[inline(always)]
-fn lanes_fail<T: Number<N>, const OP: u8, const N: usize>(
+fn lanes_fail<T: Operand<N>, const OP: u8, const N: usize>(
     left: &[T],
     right: &[T],
     start: usize,
@@ -31,7 +31,7 @@ fn lanes_fail<T: Number<N>, const OP: u8, const N: usize>(
 
 /// Writes the results of the lanes that are fine, and 0 at the others.
 #[inline(always)]
-fn put<T: Number<N>, const OP: u8, const N: usize>(
+fn put<T: Operand<N>, const OP: u8, const N: usize>(
     left: &[T],
     right: &[T],
     start: usize,
@@ -51,7 +51,7 @@ fn put<T: Number<N>, const OP: u8, const N: usize>(
     )
 }
 
-fn arith<T: Number<N>, const OP: u8, const N: usize>(left: T, right: T) -> Option<T>
+fn arith<T: Operand<N>, const OP: u8, const N: usize>(left: T, right: T) -> Option<T>
     requires { IsArithmetic OP }
     ensures { option_map T.whole result ≡ checked T.width OP (T.whole left) (T.whole right) }
 {
@@ -66,7 +66,11 @@ fn arith<T: Number<N>, const OP: u8, const N: usize>(left: T, right: T) -> Optio
 }
 
 /// What a place gets, and whether it fails.
-fn arith_at<T: Number<N>, const OP: u8, const N: usize>(valid: bool, left: T, right: T) -> (T, bool)
+fn arith_at<T: Operand<N>, const OP: u8, const N: usize>(
+    valid: bool,
+    left: T,
+    right: T,
+) -> (T, bool)
     requires { IsArithmetic OP }
     ensures value { T.whole result.0 ≡ result_at T.width OP valid (T.whole left) (T.whole right) }
     ensures failure { result.1 ≡ (valid && fails T.width OP (T.whole left) (T.whole right)) }
@@ -80,7 +84,7 @@ fn arith_at<T: Number<N>, const OP: u8, const N: usize>(valid: bool, left: T, ri
     }
 }
 
-fn arith_rest<T: Number<N>, const OP: u8, const N: usize>(
+fn arith_rest<T: Operand<N>, const OP: u8, const N: usize>(
     left: &[T],
     right: &[T],
     valid: &Mask,
@@ -104,7 +108,7 @@ fn arith_rest<T: Number<N>, const OP: u8, const N: usize>(
 }
 
 /// Arithmetic at each place, `N` places at a time.
-pub(crate) fn arith_columns<T: Number<N>, const OP: u8, const N: usize>(
+pub(crate) fn arith_columns<T: Operand<N>, const OP: u8, const N: usize>(
     left: &[T],
     right: &[T],
     valid: &Mask,
@@ -132,7 +136,7 @@ pub(crate) fn arith_columns<T: Number<N>, const OP: u8, const N: usize>(
 
 /// At which lanes a comparison holds.
 #[inline(always)]
-fn compare_lanes<T: Number<N>, const OP: u8, const N: usize>(
+fn compare_lanes<T: Operand<N>, const OP: u8, const N: usize>(
     left: &[T],
     right: &[T],
     start: usize,
@@ -152,14 +156,14 @@ fn compare_lanes<T: Number<N>, const OP: u8, const N: usize>(
 }
 
 /// Whether a place is valid and its comparison holds.
-fn compare_at<T: Number<N>, const OP: u8, const N: usize>(valid: bool, left: T, right: T) -> bool
+fn compare_at<T: Operand<N>, const OP: u8, const N: usize>(valid: bool, left: T, right: T) -> bool
     requires { IsComparison OP }
     ensures { result ≡ (valid && compares OP (T.whole left) (T.whole right)) }
 {
     valid && compare::<T, OP, N>(left, right)
 }
 
-fn compare<T: Number<N>, const OP: u8, const N: usize>(left: T, right: T) -> bool
+fn compare<T: Operand<N>, const OP: u8, const N: usize>(left: T, right: T) -> bool
     requires { IsComparison OP }
     ensures { result ≡ compares OP (T.whole left) (T.whole right) }
 {
@@ -174,7 +178,7 @@ fn compare<T: Number<N>, const OP: u8, const N: usize>(left: T, right: T) -> boo
     )
 }
 
-fn compare_rest<T: Number<N>, const OP: u8, const N: usize>(
+fn compare_rest<T: Operand<N>, const OP: u8, const N: usize>(
     left: &[T],
     right: &[T],
     valid: &Mask,
@@ -193,7 +197,7 @@ fn compare_rest<T: Number<N>, const OP: u8, const N: usize>(
 }
 
 /// Compares at each place, `N` places at a time.
-pub(crate) fn compare_columns<T: Number<N>, const OP: u8, const N: usize>(
+pub(crate) fn compare_columns<T: Operand<N>, const OP: u8, const N: usize>(
     left: &[T],
     right: &[T],
     valid: &Mask,

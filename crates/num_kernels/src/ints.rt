@@ -6,12 +6,12 @@ ghost use Rattle.num_kernels.specs.Numbers.{IsArithmetic, IsComparison, compares
 ghost use Rattle.num_folds.specs.Lanes.{IsLaneCount, at, set_at};
 
 use crate::columns::{arith_columns, compare_columns};
-use crate::number::Number;
+use crate::operand::Operand;
 use bit_masks::Mask;
 use num_folds::int_lanes::{fit, marks};
 use std::simd::prelude::*;
 
-impl<const N: usize> Number<N> for i32 {
+impl<const N: usize> Operand<N> for i32 {
     ghost width = { w32 };
 
     ghost whole = { λ number. number };

@@ -5,7 +5,7 @@ mod columns;
 mod constants;
 mod ints;
 mod longs;
-mod number;
+mod operand;
 mod tables;
 #[cfg(test)]
 mod tests;

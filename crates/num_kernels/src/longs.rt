@@ -6,7 +6,7 @@ ghost use Rattle.num_kernels.specs.Numbers.{IsArithmetic, IsComparison, compares
 ghost use Rattle.num_folds.specs.Lanes.{IsLaneCount, at, set_at};
 
 use crate::columns::{arith_columns, compare_columns};
-use crate::number::Number;
+use crate::operand::Operand;
 use bit_masks::Mask;
 use num_folds::long_lanes::{fit, marks};
 use std::simd::prelude::*;
@@ -19,7 +19,7 @@ fn product_overflows(left: i64, right: i64) -> bool
     product < i64::MIN as i128 || product > i64::MAX as i128
 }
 
-impl<const N: usize> Number<N> for i64 {
+impl<const N: usize> Operand<N> for i64 {
     ghost width = { w64 };
 
     ghost whole = { λ number. number };

@@ -9,8 +9,8 @@ invariant-loop-start g l = record {
   as_many : length l.failed ≡ length l.fn.failed;
   within : l.start ≤ length l.left;
   aligned : l.start % g.row.N ≡ 0;
-  done : (k : ℕ) → k < l.start → at (g.T.Number.wholes l.to) k ≡ result_at g.T.Number.width g.row.OP (set_at l.valid k) (at (g.T.Number.wholes l.left) k) (at (g.T.Number.wholes l.right) k);
-  failed_done : (k : ℕ) → k < l.start → set_at l.failed k ≡ (set_at l.valid k && fails g.T.Number.width g.row.OP (at (g.T.Number.wholes l.left) k) (at (g.T.Number.wholes l.right) k));
+  done : (k : ℕ) → k < l.start → at (g.T.Operand.wholes l.to) k ≡ result_at g.T.Operand.width g.row.OP (set_at l.valid k) (at (g.T.Operand.wholes l.left) k) (at (g.T.Operand.wholes l.right) k);
+  failed_done : (k : ℕ) → k < l.start → set_at l.failed k ≡ (set_at l.valid k && fails g.T.Operand.width g.row.OP (at (g.T.Operand.wholes l.left) k) (at (g.T.Operand.wholes l.right) k));
 }
 
 abbrev pub decreases-loop-start : goal.decreases-loop-start

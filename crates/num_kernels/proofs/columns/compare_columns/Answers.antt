@@ -20,7 +20,7 @@ loop-start-preserved g c =
     let invariant = c.loop-start.invariant in
     let start = c.loop-start.start in
     let valid = c.args.valid.now in
-    let p : ℕ → Bool = λ k. compares g.row.OP (at (g.T.Number.wholes c.args.left.now) k) (at (g.T.Number.wholes c.args.right.now) k) in
+    let p : ℕ → Bool = λ k. compares g.row.OP (at (g.T.Operand.wholes c.args.left.now) k) (at (g.T.Operand.wholes c.args.right.now) k) in
     let bit = bit_where valid start g.row.N c.bits.result c.bits.ensures c.compare_lanes-holding.result (λ k. p (start + k)) c.compare_lanes-holding.ensures in
     record {
       same_length = c.put_bits.ensures.same_length ∙ invariant.same_length;

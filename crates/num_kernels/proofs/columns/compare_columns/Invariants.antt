@@ -8,7 +8,7 @@ invariant-loop-start g l = record {
   same_length : length l.to ≡ length l.fn.to;
   within : l.start ≤ length l.left;
   aligned : l.start % g.row.N ≡ 0;
-  done : (k : ℕ) → k < l.start → set_at l.to k ≡ (set_at l.valid k && compares g.row.OP (at (g.T.Number.wholes l.left) k) (at (g.T.Number.wholes l.right) k));
+  done : (k : ℕ) → k < l.start → set_at l.to k ≡ (set_at l.valid k && compares g.row.OP (at (g.T.Operand.wholes l.left) k) (at (g.T.Operand.wholes l.right) k));
 }
 
 abbrev pub decreases-loop-start : goal.decreases-loop-start

@@ -1,6 +1,0 @@
-use Rattle.std.proofs.Common.{w32}
-use Rattle.num_kernels.proofs.Marked.{sums_marked}
-use Rattle.num_kernels.proofs.ints.I32Number.sum_fails.Goals as goal
-
-pub returns : goal.returns
-returns g c = sums_marked w32 c.requires
