@@ -4,10 +4,11 @@ use Rattle.std.proofs.lemmas.Bool.{cases_eq, cases_lt, false≢true}
 use Rattle.std.proofs.lemmas.List.{get_or-set_same, get_or-set_other}
 use Rattle.std.proofs.lemmas.Nat.Bits.{bit_at_set_same, bit_at_set_other}
 use Rattle.std.specs.Int.{bit_at, bit_not}
-use Rattle.bit_masks.proofs.Places.{bit_of_and, bit_of_not}
+use lib.IntN.{ℤ}
 use lib.Lanes.{mask_l}
 use Rattle.num_folds.specs.Lanes.{set_at, Marks}
-use Rattle.num_folds.proofs.Steps.{part_bit}
+use Rattle.num_folds.proofs.Steps.{part_short, both_bits}
+use Rattle.num_kernels.proofs.Bits.{not_bits}
 
 -- a loop that writes one place after another
 module _ {X : Type 0} (d : X) (P : ℕ → X) (xs : List X) (start place : ℕ) (value : X) where
@@ -28,12 +29,22 @@ module _ {X : Type 0} (d : X) (P : ℕ → X) (old new : List X) (start n : ℕ)
       (λ (from : start ≤ k). subst (λ (i : ℕ). get_or new i d ≡ P i) (let e : start + (k - start) ≡ k = omega arith in e) (inside (k - start) (omega arith)))
       (cases_lt k start)
 
--- the bits of a mask's part at which a test does not hold
-module _ (valid : List Bool) (start n : ℕ) (tests : ℕ) (p : ℕ → Bool) (marked : Marks n tests p) where
-  pub but_bits : n ≤ 16 → tests < 2 ^ 64 → (k : ℕ) → k < n → eqb (bit_at (bit_and (mask_l (take n (drop start valid))) (bit_not w64 tests)) k) 1 ≡ (set_at valid (start + k) && not (p k))
-  but_bits few fits k below = bit_of_and (mask_l (take n (drop start valid))) (bit_not w64 tests) k
-      ∙ ap (λ (b : Bool). b && eqb (bit_at (bit_not w64 tests) k) 1) (part_bit valid start n k below)
-      ∙ ap (λ (b : Bool). set_at valid (start + k) && b) (bit_of_not tests k fits (omega arith) ∙ ap not (marked k below))
+-- the bits of a mask's part, by a test that was made of its places
+module _ (valid : List Bool) (start n bits : ℕ) (part : bits ≡ mask_l (take n (drop start valid))) where
+  pub bits_short : start + n ≤ length valid → (other : ℕ) → bit_and bits other < 2 ^ n
+  bits_short room other = subst (λ (b : ℕ). bit_and b other < 2 ^ n) (sym part) (part_short valid start n room other)
+
+  module _ (tests : ℕ) (p : ℕ → Bool) (marked : Marks n tests p) (k : ℕ) (below : k < n) where
+    pub bit_where : eqb (bit_at (bit_and bits tests) k) 1 ≡ (set_at valid (start + k) && p k)
+    bit_where = ap (λ (b : ℕ). eqb (bit_at (bit_and b tests) k) 1) part ∙ both_bits valid start n tests p marked k below
+
+    pub bit_where_not : n ≤ 16 → tests < 2 ^ 64 → eqb (bit_at (bit_and bits (bit_not w64 tests)) k) 1 ≡ (set_at valid (start + k) && not (p k))
+    bit_where_not few fits = ap (λ (b : ℕ). eqb (bit_at (bit_and b (bit_not w64 tests)) k) 1) part
+        ∙ both_bits valid start n (bit_not w64 tests) (λ j. not (p j)) (not_bits n tests p few fits marked) k below
+
+-- a result by a flag and two numbers
+pub by_all : {A : Type 0} (f : Bool → ℤ → ℤ → A) {b c : Bool} {x y u v : ℤ} → b ≡ c → x ≡ u → y ≡ v → f b x y ≡ f c u v
+by_all f {b} {c} {x} {y} {u} p q r = ap (λ (t : Bool). f t x y) p ∙ ap (λ (z : ℤ). f c z y) q ∙ ap (f c u) r
 
 -- a place that is valid and does not fail
 pub fine_is_sound : (valid failing : Bool) → (valid && not failing) ≡ true → failing ≡ false

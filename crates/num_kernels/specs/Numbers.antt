@@ -1,5 +1,5 @@
 -- The plain operations on whole numbers, by the kernels' constants.
-use Rattle.std.specs.Prelude.{ℕ, ◌<◌, ◌^◌, Bool, not, ◌&&◌, ◌||◌, eqb, nat_lt, if◌then◌else◌}
+use Rattle.std.specs.Prelude.{ℕ, ◌<◌, ◌^◌, Bool, not, ◌&&◌, ◌||◌, eqb, nat_lt, if◌then◌else◌, Option, Some, None}
 use Rattle.std.specs.Int.RustNames.{int_lt, int_le, int_div, int_rem}
 use Rattle.std.specs.Ordering.{int_eq}
 use lib.IntN.{ℤ, pos, negsuc, ◌+ℤ◌, ◌-ℤ◌, ◌*ℤ◌}
@@ -48,6 +48,10 @@ holds w (negsuc n) = nat_lt n (2 ^ hbits w)
 -- an operation fails at a zero divisor, and where the width does not hold its result
 abbrev pub fails : Width → ℕ → ℤ → ℤ → Bool
 fails w op left right = (divides op && int_eq right (pos 0)) || not (holds w (exact op left right))
+
+-- the result of an operation, and None where it fails
+abbrev pub checked : Width → ℕ → ℤ → ℤ → Option ℤ
+checked w op left right = if fails w op left right then None else Some (exact op left right)
 
 -- what a place gets: the result where it is valid and does not fail, and else 0
 abbrev pub result_at : Width → ℕ → Bool → ℤ → ℤ → ℤ

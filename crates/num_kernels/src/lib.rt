@@ -1,9 +1,11 @@
 //! Arithmetic and comparison over columns of numbers, by lanes, beside their sums and extremes.
 #![tactic(auto)]
 
+mod columns;
 mod constants;
 mod ints;
 mod longs;
+mod operand;
 mod tables;
 #[cfg(test)]
 mod tests;
