@@ -87,6 +87,10 @@ module _ (w : Width) (x y : ℤ) (fx : SFits w x) (fy : SFits w y) where
   pub lt_is : int_lt (to_z w (of_z w x)) (to_z w (of_z w y)) ≡ int_lt x y
   lt_is = ap (λ (z : ℤ). int_lt z (to_z w (of_z w y))) (to_z-of_z w x fx) ∙ ap (int_lt x) (to_z-of_z w y fy)
 
+-- a number that was read from a column
+pub read_at : {A : Type 0} (whole : A → ℤ) (xs : List A) (place : ℕ) (x : A) → place < length xs → x ≡ get_or xs place x → whole x ≡ at (map whole xs) place
+read_at whole xs place x within is = ap whole is ∙ sym (get_or-map whole xs place x (pos 0) within)
+
 -- a load's lanes, compared with one number
 module _ (w : Width) (n start : ℕ) (few : n ≤ 16) (values : List ℤ) (room : start + n ≤ length values) (fits : (k : ℕ) → k < n → SFits w (at values (start + k))) (bound : ℤ) (bound_fits : SFits w bound) where
   whole_at : (k : ℕ) → at values (start + k) ≡ at (map (λ (x : ℤ). x) values) (start + k)

@@ -1,5 +1,5 @@
 // The numbers of columns: what the folds ask of an integer and of a long.
-ghost use Rattle.std.specs.Prelude.{◌≡◌, ℕ, ◌+◌, ◌<◌, ◌≤◌, length, map, int_le, int_lt};
+ghost use Rattle.std.specs.Prelude.{◌≡◌, ℕ, ◌+◌, ◌<◌, ◌≤◌, length, map, int_lt};
 ghost use Rattle.std.specs.Int.{bit_at};
 ghost use Rattle.num_folds.specs.Lanes.{Marks, at};
 ghost use lib.IntN.{ℤ};
@@ -12,9 +12,9 @@ pub trait Number: Copy {
     /// The whole number that it is.
     ghost whole: { Self → ℤ };
 
-    /// Whether it is at most another.
-    fn is_at_most(self, other: Self) -> bool
-        ensures { result ≡ int_le (whole self) (whole other) };
+    /// Whether it is less than another.
+    fn is_below(self, other: Self) -> bool
+        ensures { result ≡ int_lt (whole self) (whole other) };
 }
 
 /// A number whose lanes are taken `N` at a time.
@@ -34,8 +34,8 @@ impl Number for i32 {
     ghost whole = { λ number. number };
 
     #[inline(always)]
-    fn is_at_most(self, other: i32) -> bool {
-        self <= other
+    fn is_below(self, other: i32) -> bool {
+        self < other
     }
 }
 
@@ -59,8 +59,8 @@ impl Number for i64 {
     ghost whole = { λ number. number };
 
     #[inline(always)]
-    fn is_at_most(self, other: i64) -> bool {
-        self <= other
+    fn is_below(self, other: i64) -> bool {
+        self < other
     }
 }
 
