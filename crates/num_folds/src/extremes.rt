@@ -1,10 +1,10 @@
 // The least and the greatest number over the places that are set in two masks.
-ghost use Rattle.std.specs.Prelude.{◌≡◌, ℕ, ◌+◌, ◌%◌, ◌<◌, ◌≤◌, Bool, true, length, map, option_map, eqb, if◌then◌else◌, Option, Some, None};
+ghost use Rattle.std.specs.Prelude.{◌≡◌, ℕ, ◌+◌, ◌%◌, ◌<◌, ◌≤◌, true, length, map, option_map, eqb, if◌then◌else◌};
 ghost use Rattle.std.specs.Int.{bit_at};
 ghost use Rattle.num_folds.specs.Lanes.{IsLaneCount, Marks, at};
 ghost use Rattle.num_folds.specs.Totals.{AsGood, IsBest, IsGreatest, IsLeast, IsNoBetter, better_of, both_at, is_better};
 
-use crate::{Laned, Number};
+use crate::number::{Laned, Number};
 use bit_masks::Mask;
 
 // Which number is sought.
@@ -16,9 +16,9 @@ fn is_better<T: Number, const SOUGHT: bool>(value: T, best: T) -> bool
     ensures { result ≡ is_better SOUGHT (T.whole value) (T.whole best) }
 {
     if SOUGHT == LEAST {
-        value.is_below(best)
+        value.is_less(best)
     } else {
-        best.is_below(value)
+        best.is_less(value)
     }
 }
 
@@ -78,9 +78,9 @@ fn better_lanes<T: Laned<N>, const SOUGHT: bool, const N: usize>(
     ensures { Marks N result (λ k. is_better SOUGHT (at (map T.whole values.now) (start + k)) (T.whole best)) }
 {
     if SOUGHT == LEAST {
-        T::below(values, start, best)
+        T::lanes_below(values, start, best)
     } else {
-        T::above(values, start, best)
+        T::lanes_above(values, start, best)
     }
 }
 

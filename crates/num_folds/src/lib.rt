@@ -10,5 +10,4 @@ mod sums;
 mod tests;
 
 pub use extremes::{greatest_ints, greatest_longs, least_ints, least_longs};
-pub use number::{Laned, Number};
 pub use sums::{sum_ints, sum_longs};
