@@ -1,6 +1,6 @@
 -- One lane at a time: what a vector's operation leaves in a lane.
 use Rattle.std.proofs.Common.{◌≡◌, ℕ, ◌+◌, ◌-◌, ◌%◌, ◌^◌, ◌<◌, ◌≤◌, Bool, true, false, cond, eqb, ◌&&◌, List, length, get_or, map, replicate, refl, sym, ap, ◌∙◌, subst, arith}
-use Rattle.std.proofs.lemmas.List.{get_or-map, length-map}
+use Rattle.std.proofs.lemmas.List.{get_or-map, length-map, map-id}
 use Rattle.std.proofs.lemmas.Simd.{length-zip2, get_or-zip2, length-replicate, get_or-replicate, tops_compared, length-sel_l, get_or-sel_l, mask_l-mod, bit_mask_l, length-chunk, get_or-chunk}
 use Rattle.std.specs.Int.{bit_at}
 use Rattle.std.specs.Int.RustNames.{bit_and, int_lt}
@@ -10,7 +10,7 @@ use lib.IntN.{ℤ, pos}
 use lib.Lanes.{zip2, sel_l, mask_l, top, chunk}
 use mir.Syntax.{Width}
 use mir.Val.{bits, hbits, of_z, to_z, SFits}
-use Rattle.num_folds.specs.Lanes.{at}
+use Rattle.num_folds.specs.Lanes.{at, Marks}
 
 pub one_is : (b : Bool) → eqb (cond b 1 0) 1 ≡ b
 one_is true = refl
@@ -86,6 +86,27 @@ lane_at_length {n} {k} {xs} w lane = length-map xs (to_z w) ∙ lane.long
 module _ (w : Width) (x y : ℤ) (fx : SFits w x) (fy : SFits w y) where
   pub lt_is : int_lt (to_z w (of_z w x)) (to_z w (of_z w y)) ≡ int_lt x y
   lt_is = ap (λ (z : ℤ). int_lt z (to_z w (of_z w y))) (to_z-of_z w x fx) ∙ ap (int_lt x) (to_z-of_z w y fy)
+
+-- a number that was read from a column
+pub read_at : {A : Type 0} (whole : A → ℤ) (xs : List A) (place : ℕ) (x : A) → place < length xs → x ≡ get_or xs place x → whole x ≡ at (map whole xs) place
+read_at whole xs place x within is = ap whole is ∙ sym (get_or-map whole xs place x (pos 0) within)
+
+-- a load's lanes, compared with one number
+module _ (w : Width) (n start : ℕ) (few : n ≤ 16) (values : List ℤ) (room : start + n ≤ length values) (fits : (k : ℕ) → k < n → SFits w (at values (start + k))) (bound : ℤ) (bound_fits : SFits w bound) where
+  whole_at : (k : ℕ) → at values (start + k) ≡ at (map (λ (x : ℤ). x) values) (start + k)
+  whole_at k = ap (λ (xs : List ℤ). at xs (start + k)) (sym (map-id values))
+
+  pub marks_below : Marks n (mask_l (map (top (hbits w)) (zip2 (λ x y. cond (int_lt (to_z w x) (to_z w y)) (2 ^ bits w - 1) 0) (map (of_z w) (chunk start n values)) (replicate n (of_z w bound)))) % 2 ^ 64) (λ k. int_lt (at (map (λ (x : ℤ). x) values) (start + k)) bound)
+  marks_below k below =
+      lane_bit below w (λ a b. int_lt (to_z w a) (to_z w b)) (lane_loaded below w values start room) (lane_splat below (of_z w bound)) (omega arith)
+      ∙ lt_is w (at values (start + k)) bound (fits k below) bound_fits
+      ∙ ap (λ (x : ℤ). int_lt x bound) (whole_at k)
+
+  pub marks_above : Marks n (mask_l (map (top (hbits w)) (zip2 (λ x y. cond (int_lt (to_z w x) (to_z w y)) (2 ^ bits w - 1) 0) (replicate n (of_z w bound)) (map (of_z w) (chunk start n values)))) % 2 ^ 64) (λ k. int_lt bound (at (map (λ (x : ℤ). x) values) (start + k)))
+  marks_above k below =
+      lane_bit below w (λ a b. int_lt (to_z w a) (to_z w b)) (lane_splat below (of_z w bound)) (lane_loaded below w values start room) (omega arith)
+      ∙ lt_is w bound (at values (start + k)) bound_fits (fits k below)
+      ∙ ap (int_lt bound) (whole_at k)
 
 -- the bits of two masks that are put together
 module _ {p q : Bool} (a b k : ℕ) (left : eqb (bit_at a k) 1 ≡ p) (right : eqb (bit_at b k) 1 ≡ q) where

@@ -1,4 +1,4 @@
-pub mod Extremes
+pub mod Best
 pub mod Lanes
 pub mod Marks
 pub mod Steps

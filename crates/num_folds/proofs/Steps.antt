@@ -6,6 +6,7 @@ use Rattle.std.specs.Int.{bit_at}
 use Rattle.bit_masks.proofs.Places.{bit_of_and}
 use lib.Lanes.{mask_l, chunk}
 use Rattle.num_folds.specs.Lanes.{set_at, IsLaneCount, Marks}
+use Rattle.num_folds.specs.Totals.{both_at}
 use Rattle.num_folds.proofs.Lanes.{one_is}
 
 by_count : (P : ℕ → Type 0) (n : ℕ) → IsLaneCount n → P 4 → P 8 → P 16 → P n
@@ -42,3 +43,9 @@ module _ (valid : List Bool) (start n : ℕ) where
   module _ (tests : ℕ) (p : ℕ → Bool) (marked : Marks n tests p) where
     pub both_bits : (k : ℕ) → k < n → eqb (bit_at (bit_and (mask_l (take n (drop start valid))) tests) k) 1 ≡ (set_at valid (start + k) && p k)
     both_bits k below = bit_of_and (mask_l (take n (drop start valid))) tests k ∙ ap (λ (b : Bool). b && eqb (bit_at tests k) 1) (part_bit k below) ∙ ap (λ (b : Bool). set_at valid (start + k) && b) (marked k below)
+
+-- the bits of both masks' parts, put together
+pub kept_bits : (valid keep : List Bool) (start n : ℕ) {a b : ℕ} → a ≡ mask_l (take n (drop start valid)) → b ≡ mask_l (take n (drop start keep)) → Marks n (bit_and a b) (λ k. both_at valid keep (start + k))
+kept_bits valid keep start n {a} {b} a_is b_is k below =
+    ap (λ (m : ℕ). eqb (bit_at (bit_and m b) k) 1) a_is
+    ∙ both_bits valid start n b (λ k. set_at keep (start + k)) (λ k below. ap (λ (m : ℕ). eqb (bit_at m k) 1) b_is ∙ part_bit keep start n k below) k below

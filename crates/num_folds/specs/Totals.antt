@@ -1,5 +1,5 @@
 -- Sums and extremes over the places that are set in two masks.
-use Rattle.std.specs.Prelude.{ℕ, zero, suc, ◌≡◌, ◌*◌, ◌^◌, ◌<◌, ◌≤◌, Bool, true, false, ◌&&◌, if◌then◌else◌, List, Option, Some, None, unsigned_abs}
+use Rattle.std.specs.Prelude.{ℕ, zero, suc, ◌≡◌, ◌*◌, ◌^◌, ◌<◌, ◌≤◌, Bool, true, false, ◌&&◌, if◌then◌else◌, List, Option, Some, None, unsigned_abs, int_lt}
 use Rattle.num_folds.specs.Lanes.{at, set_at}
 use lib.IntN.{ℤ, pos, ◌+ℤ◌}
 use lib.Signed.{◌≤ℤ◌}
@@ -33,10 +33,19 @@ IsLeast = IsBest (λ least x. least ≤ℤ x)
 abbrev pub IsGreatest : List ℤ → List Bool → List Bool → ℕ → Option ℤ → Type 0
 IsGreatest = IsBest (λ greatest x. x ≤ℤ greatest)
 
+-- one number is as good as another, where the least is sought, and where the greatest is
+abbrev pub AsGood : Bool → ℤ → ℤ → Type 0
+AsGood true = λ least x. least ≤ℤ x
+AsGood false = λ greatest x. x ≤ℤ greatest
+
+abbrev pub is_better : Bool → ℤ → ℤ → Bool
+is_better true x best = int_lt x best
+is_better false x best = int_lt best x
+
 -- the better of the best so far and one more number
-abbrev pub better : (ℤ → ℤ → Bool) → Option ℤ → ℤ → Option ℤ
-better test None x = Some x
-better test (Some best) x = if test best x then Some best else Some x
+abbrev pub better_of : Bool → Option ℤ → ℤ → Option ℤ
+better_of sought None x = Some x
+better_of sought (Some best) x = if is_better sought x best then Some x else Some best
 
 -- a number is no better than the best so far
 abbrev pub IsNoBetter : (ℤ → ℤ → Type 0) → Option ℤ → ℤ → Type 0

@@ -1,14 +1,13 @@
 //! Sums and extremes over columns of numbers, by lanes.
 #![tactic(auto)]
 
-mod int_extremes;
+mod extremes;
 pub mod int_lanes;
-mod long_extremes;
 pub mod long_lanes;
+mod number;
 mod sums;
 #[cfg(test)]
 mod tests;
 
-pub use int_extremes::{greatest_ints, least_ints};
-pub use long_extremes::{greatest_longs, least_longs};
+pub use extremes::{greatest_ints, greatest_longs, least_ints, least_longs};
 pub use sums::{sum_ints, sum_longs};

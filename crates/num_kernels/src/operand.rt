@@ -103,5 +103,6 @@ pub(crate) trait Operand<const N: usize>: Copy {
     fn remainder(self, right: Self) -> Option<Self>
         ensures { option_map whole result ≡ checked width mod_of (whole self) (whole right) };
 
+    /// A column stands for the whole numbers of its items.
     ghost each: { (numbers : List Self) → wholes numbers ≡ map whole numbers };
 }

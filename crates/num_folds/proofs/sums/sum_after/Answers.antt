@@ -1,10 +1,9 @@
-use Rattle.std.proofs.Common.{◌≡◌, ◌+◌, ◌^◌, ◌<◌, ◌≤◌, ℕ, Bool, cond, ◌∙◌, eqb, sym, ap, subst, arith, bit_and, w64}
+use Rattle.std.proofs.Common.{◌≡◌, ◌+◌, ◌^◌, ◌<◌, ◌≤◌, ℕ, Bool, cond, ◌∙◌, sym, ap, subst, arith, bit_and, w64}
 use Rattle.std.proofs.lemmas.Int.{to_z-of_z}
-use Rattle.std.specs.Int.{bit_at}
 use Rattle.std.specs.Int.RustNames.{unsigned_abs}
 use Rattle.num_folds.specs.Totals.{both_at, kept_at, IsTotal}
-use Rattle.num_folds.specs.Lanes.{at, set_at}
-use Rattle.num_folds.proofs.Steps.{some_lanes, few_lanes, short_bits, part_bit, part_short, both_bits}
+use Rattle.num_folds.specs.Lanes.{at}
+use Rattle.num_folds.proofs.Steps.{some_lanes, few_lanes, short_bits, part_short, kept_bits}
 use Rattle.num_folds.proofs.Totals.{total_one, sum_fits, few_fit, kept_fits, kept_small}
 use lib.IntN.{ℤ, pos, ◌+ℤ◌}
 use mir.Syntax.{w128}
@@ -40,13 +39,7 @@ loop-k-preserved g c =
     let below : k < n = c.loop-k-test.true in
     let room : start + n ≤ 65536 = omega arith in
     let fits : SFits w64 x = c.fit.ensures k below in
-    let marked : (j : ℕ) → j < n → eqb (bit_at c.bits-2.result j) 1 ≡ set_at keep (start + j) = λ j within.
-    ap (λ (b : ℕ). eqb (bit_at b j) 1) c.bits-2.ensures ∙ part_bit keep start n j within in
-    let both = both_bits valid start n c.bits-2.result (λ j. set_at keep (start + j)) marked in
-    let value_is : value ≡ series (start + k) =
-    c.kept_lanes-kept.ensures k below
-    ∙ ap (λ (b : ℕ). cond (eqb (bit_at (bit_and b c.bits-2.result) k) 1) x (pos 0)) c.bits.ensures
-    ∙ ap (λ (b : Bool). cond b x (pos 0)) (both k below) in
+    let value_is : value ≡ series (start + k) = c.kept_lanes-kept.ensures k below ∙ ap (λ (b : Bool). cond b x (pos 0)) (kept_bits valid keep start n c.bits.ensures c.bits-2.ensures k below) in
     let kept = both_at valid keep (start + k) in
     let small : unsigned_abs value ≤ 2 ^ 63 = kept_small w64 kept x value fits value_is in
     let value_fits : SFits w64 value = subst (SFits w64) (sym value_is) (kept_fits w64 kept x fits) in

@@ -1,9 +1,8 @@
-use Rattle.std.proofs.Common.{◌≡◌, ◌+◌, ◌^◌, ◌<◌, ℕ, Bool, cond, ◌∙◌, eqb, sym, ap, subst, arith, bit_and, w64}
+use Rattle.std.proofs.Common.{◌≡◌, ◌+◌, ◌^◌, ◌<◌, ℕ, Bool, cond, ◌∙◌, sym, ap, subst, arith, bit_and, w64}
 use Rattle.std.proofs.lemmas.Int.{to_z-of_z}
-use Rattle.std.specs.Int.{bit_at}
 use Rattle.num_folds.specs.Totals.{kept_at, IsTotal}
-use Rattle.num_folds.specs.Lanes.{at, set_at}
-use Rattle.num_folds.proofs.Steps.{some_lanes, few_lanes, next_start, short_bits, part_bit, part_short, both_bits}
+use Rattle.num_folds.specs.Lanes.{at}
+use Rattle.num_folds.proofs.Steps.{some_lanes, few_lanes, next_start, short_bits, part_short, kept_bits}
 use Rattle.num_folds.proofs.Totals.{total_lanes, sum_fits, few_fit}
 use lib.IntN.{ℤ, pos, ◌+ℤ◌}
 use mir.Val.{SFits, of_z, to_z}
@@ -38,14 +37,11 @@ loop-start-preserved g c =
     let part_fits : SFits w64 part = few_fit w64 31 n part part_small (omega arith) in
     let is : to_z w64 (of_z w64 (sum +ℤ to_z w64 (of_z w64 part))) ≡ sum +ℤ part =
     ap (λ (z : ℤ). to_z w64 (of_z w64 (sum +ℤ z))) (to_z-of_z w64 part part_fits) ∙ to_z-of_z w64 (sum +ℤ part) (sum_fits w64 31 start sum part n sum_small part_small (omega arith)) in
-    let marked : (k : ℕ) → k < n → eqb (bit_at c.bits-in-loop-start.result k) 1 ≡ set_at keep (start + k) = λ k below.
-    ap (λ (b : ℕ). eqb (bit_at b k) 1) c.bits-in-loop-start.ensures ∙ part_bit keep start n k below in
-    let bits = both_bits valid start n c.bits-in-loop-start.result (λ k. set_at keep (start + k)) marked in
+    let bits = kept_bits valid keep start n c.bits.ensures c.bits-in-loop-start.ensures in
     record {
       within = omega arith;
       aligned = next_start n c.requires.0 start invariant.aligned;
       summed = subst (IsTotal 31 series (start + n)) (sym is)
           (total_lanes 31 series _ start n sum part invariant.summed lanes
-          (λ k below. ap (λ (b : ℕ). cond (eqb (bit_at (bit_and b c.bits-in-loop-start.result) k) 1) (at values (start + k)) (pos 0)) c.bits.ensures
-          ∙ ap (λ (b : Bool). cond b (at values (start + k)) (pos 0)) (bits k below)));
+          (λ k below. ap (λ (b : Bool). cond b (at values (start + k)) (pos 0)) (bits k below)));
     }
