@@ -13,8 +13,9 @@ use Rattle.esql_phrases.specs.declared.lexeme.Lexeme.{Lexeme}
 use Rattle.esql_phrases.specs.declared.lexeme.Lexeme.TheVariants.{Plain, Word, Sign as Mark}
 use Rattle.esql_phrases.specs.declared.part.Part.{Part}
 use Rattle.esql_phrases.specs.Parts.{column_part}
-use Rattle.esql_phrases.specs.Phrases.{IsName, Phrase, looser, number_line, text_line, true_line, false_line, null_line, list_line, name_line, group_line, empty_line, star_line, call_line, cast_line, minus_line, not_line, binary_line, in_line, like_line, is_line}
+use Rattle.esql_phrases.specs.Phrases.{IsName, Phrase}
 use Rattle.esql_expr.specs.Machine as expr
+use Rattle.esql_expr.proofs.Viable.{depth_one}
 use Rattle.esql_commands.specs.declared.point.Clause.{Clause}
 use Rattle.esql_commands.specs.declared.point.Slot.{Slot}
 use Rattle.esql_commands.specs.declared.point.Slot.TheVariants as slot
@@ -53,28 +54,6 @@ listed next Holds comma item (next_item at {w = w} {items = items} {a = a} {e = 
     let v = item items w a e one in
     record { here = v.here; moves = moves_on u.moves (Mark sign.Comma at) refl tt (comma items u.here u.holds at) v.moves; holds = v.holds }
 
--- no expression has the depth 0
-some_depth : {n : ℕ} {w : List Lexeme} {p : Part} → Phrase n w p → 1 ≤ p.depth
-some_depth (looser p) = some_depth p
-some_depth (number_line number at) = omega arith
-some_depth (text_line text) = omega arith
-some_depth (true_line at) = omega arith
-some_depth (false_line at) = omega arith
-some_depth (null_line at) = omega arith
-some_depth (list_line opening closing vs) = omega arith
-some_depth (name_line name) = omega arith
-some_depth (group_line opening closing p) = omega arith
-some_depth (empty_line function opening closing) = omega arith
-some_depth (star_line function opening star closing) = omega arith
-some_depth (call_line function opening closing es) = omega arith
-some_depth (cast_line cast p kind) = omega arith
-some_depth (minus_line minus p) = omega arith
-some_depth (not_line not p) = omega arith
-some_depth (binary_line op at p q) = omega arith
-some_depth (in_line opening closing m p es) = omega arith
-some_depth (like_line pattern m p) = omega arith
-some_depth (is_line m p) = omega arith
-
 max_one : (d : ℕ) → 1 ≤ d → max 1 d ≡ d
 max_one d h = omega arith
 
@@ -97,7 +76,7 @@ field_read : (place : Option NameAt → Slot) → Assigns place → {w : List Le
 field_read place assigns (field_line {p = p} no_name phrase) = record { here = point.Ended (place None) p; moves = moves_expr (place None) 0 phrase; holds = field_at None p }
 field_read place assigns (field_line {w = w} {p = p} (named at {x = x} {name = name} n) phrase) = record {
   here = point.Ended (place (Some name)) p;
-  moves = subst (λ d. Moves (x ∷ Mark sign.Assign at ∷ w) d (Open (place None) (expr.start 0)) (At (point.Ended (place (Some name)) p))) (max_one p.depth (some_depth phrase))
+  moves = subst (λ d. Moves (x ∷ Mark sign.Assign at ∷ w) d (Open (place None) (expr.start 0)) (At (point.Ended (place (Some name)) p))) (max_one p.depth (depth_one phrase))
       (moves_on (moves_expr (place None) 0 (name_phrase n)) (Mark sign.Assign at) refl tt (assigns name at) (moves_expr (place (Some name)) 0 phrase));
   holds = field_at (Some name) p;
 }
