@@ -13,7 +13,7 @@ use Rattle.esql_phrases.specs.declared.lexeme.Lexeme.{Lexeme}
 use Rattle.esql_phrases.specs.declared.lexeme.Lexeme.TheVariants.{Plain, Word, Sign as Mark}
 use Rattle.esql_phrases.specs.declared.part.Part.{Part}
 use Rattle.esql_phrases.specs.Parts.{column_part}
-use Rattle.esql_phrases.specs.Phrases.{IsName, Phrase}
+use Rattle.esql_phrases.specs.Phrases.{IsName, Phrase, looser, name_line}
 use Rattle.esql_expr.specs.Machine as expr
 use Rattle.esql_expr.proofs.Viable.{depth_one}
 use Rattle.esql_commands.specs.declared.point.Clause.{Clause}
