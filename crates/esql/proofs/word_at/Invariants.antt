@@ -1,4 +1,4 @@
-use Rattle.std.proofs.Common.{ℕ, ◌-◌, ◌^◌, ◌≤◌}
+use Rattle.std.proofs.Common.{◌-◌, ◌^◌, ◌≤◌}
 use Rattle.esql.proofs.word_at.Given as goal
 
 abbrev pub invariant-loop-bytes : goal.invariant-loop-bytes
