@@ -8,7 +8,7 @@ use Rattle.std.specs.List.{range_with_len, sum_by}
 use Rattle.std.specs.Int.{bit_at}
 use lib.Lanes.{mask_l}
 use Rattle.bit_masks.specs.Masks.{is_set, booleans}
-use Rattle.bit_masks.proofs.Places.{is_set_past}
+use Rattle.bit_masks.proofs.Places.{is_set_past, as_bit}
 
 abbrev one_if : Bool → ℕ
 one_if t = cond t 1 0
@@ -55,11 +55,6 @@ tally-none p a (suc n) none =
     let first : one_if (p a) ≡ 0 = ap one_if (none a (omega arith)) in
     let rest = tally-none p (a + 1) n (λ i from. none i (omega arith)) in
     omega (arith, first, rest)
-
-as_bit : (b : ℕ) → b < 2 → cond (eqb b 1) 1 0 ≡ b
-as_bit zero p = refl
-as_bit (suc zero) p = refl
-as_bit (suc (suc b)) p = absurd (omega arith)
 
 -- a word is the number of its bits
 word_of_bits : (word : ℕ) → word < 2 ^ 64 → mask_l (map (λ j. eqb (bit_at word j) 1) (range_with_len 0 64)) ≡ word

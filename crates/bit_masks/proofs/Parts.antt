@@ -1,5 +1,5 @@
 -- The places of a part of a word, as the bits of a number.
-use Rattle.std.proofs.Common.{◌≡◌, ◌≢◌, ℕ, zero, suc, ◌+◌, ◌-◌, ◌*◌, ◌/◌, ◌%◌, ◌^◌, ◌<◌, ◌≤◌, Bool, true, false, cond, eqb, not, ◌&&◌, ◌||◌, List, length, get_or, set, take, drop, refl, sym, ap, ◌∙◌, ◌⊎◌, inl, inr, ⊎_elim, arith, bit_and, bit_or}
+use Rattle.std.proofs.Common.{◌≡◌, ◌≢◌, ℕ, ◌+◌, ◌-◌, ◌*◌, ◌/◌, ◌%◌, ◌^◌, ◌<◌, ◌≤◌, Bool, true, false, cond, eqb, not, ◌&&◌, ◌||◌, List, length, get_or, set, take, drop, refl, sym, ap, ◌∙◌, ◌⊎◌, inl, inr, ⊎_elim, arith, bit_and, bit_or}
 use Rattle.std.proofs.lemmas.Bool.{cases_eq, cases_lt, lt-ltb, le-ltb}
 use Rattle.std.proofs.lemmas.List.{get_or_past}
 use Rattle.std.proofs.lemmas.Nat.{pow_pos, shl_whole}
@@ -9,13 +9,8 @@ use Rattle.std.specs.Int.{bit_at, bit_not}
 use mir.Syntax.{w64}
 use lib.Lanes.{chunk, mask_l}
 use Rattle.bit_masks.specs.Masks.{is_set, booleans}
-use Rattle.bit_masks.proofs.Places.{is_set_here, is_set_elsewhere, length-booleans, get_or-booleans, bit_of_lowest, bit_of_or, bit_of_and, bit_of_not, and_true, and_false}
+use Rattle.bit_masks.proofs.Places.{as_bit, is_set_here, is_set_elsewhere, length-booleans, get_or-booleans, bit_of_lowest, bit_of_or, bit_of_and, bit_of_not, and_true, and_false}
 use Rattle.bit_masks.proofs.Searches.{bit_past}
-
-as_bit : (b : ℕ) → b < 2 → b ≡ cond (eqb b 1) 1 0
-as_bit zero p = refl
-as_bit (suc zero) p = refl
-as_bit (suc (suc b)) p = absurd (omega arith)
 
 or_false : (b : Bool) → (b || false) ≡ b
 or_false true = refl
@@ -32,7 +27,7 @@ bits_are words len start count one_word within =
     let part = chunk start count (booleans words len) in
     let long : length part ≡ count = length-chunk start count (booleans words len) (let e = length-booleans words len in omega arith) in
     same_from_bits (bit_and word (2 ^ count - 1)) (mask_l part) (λ j.
-    as_bit (bit_at (bit_and word (2 ^ count - 1)) j) (bit_at-lt _ j)
+    sym (as_bit (bit_at (bit_and word (2 ^ count - 1)) j) (bit_at-lt _ j))
     ∙ ap (λ (b : Bool). cond b 1 0) (bit_of_lowest word count j ∙ ⊎_elim
     (λ (below : j < count).
     ap (λ (b : Bool). eqb (bit_at word j) 1 && b) (lt-ltb j count below)

@@ -38,9 +38,15 @@ is_set_here words index word i within same = ap (λ (w : ℕ). eqb (bit_at w (i 
 pub is_set_elsewhere : (words : List ℕ) (index word i : ℕ) → i / 64 ≢ index → is_set (set words index word) i ≡ is_set words i
 is_set_elsewhere words index word i other = ap (λ (w : ℕ). eqb (bit_at w (i % 64)) 1) (get_or-set_other words index (i / 64) word 0 other)
 
-one_is : (value : Bool) → eqb (cond value 1 0) 1 ≡ value
+pub one_is : (value : Bool) → eqb (cond value 1 0) 1 ≡ value
 one_is true = refl
 one_is false = refl
+
+-- a bit is 1 or 0 by whether it is 1
+pub as_bit : (b : ℕ) → b < 2 → cond (eqb b 1) 1 0 ≡ b
+as_bit zero p = refl
+as_bit (suc zero) p = refl
+as_bit (suc (suc b)) p = absurd (omega arith)
 
 -- one bit of one word changed
 module _ (words : List ℕ) (place word : ℕ) (within : place / 64 < length words)

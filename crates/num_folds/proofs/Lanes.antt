@@ -1,20 +1,16 @@
 -- One lane at a time: what a vector's operation leaves in a lane.
-use Rattle.std.proofs.Common.{◌≡◌, ℕ, ◌+◌, ◌-◌, ◌%◌, ◌^◌, ◌<◌, ◌≤◌, Bool, true, false, cond, eqb, ◌&&◌, List, length, get_or, map, replicate, refl, sym, ap, ◌∙◌, subst, arith}
+use Rattle.std.proofs.Common.{◌≡◌, ℕ, ◌+◌, ◌-◌, ◌%◌, ◌^◌, ◌<◌, ◌≤◌, Bool, false, cond, eqb, ◌&&◌, List, length, get_or, map, replicate, sym, ap, ◌∙◌, subst, arith}
 use Rattle.std.proofs.lemmas.List.{get_or-map, length-map, map-id}
 use Rattle.std.proofs.lemmas.Simd.{length-zip2, get_or-zip2, length-replicate, get_or-replicate, tops_compared, length-sel_l, get_or-sel_l, mask_l-mod, bit_mask_l, length-chunk, get_or-chunk}
 use Rattle.std.specs.Int.{bit_at}
 use Rattle.std.specs.Int.RustNames.{bit_and, int_lt}
 use Rattle.std.proofs.lemmas.Int.{to_z-of_z}
-use Rattle.bit_masks.proofs.Places.{bit_of_and}
+use Rattle.bit_masks.proofs.Places.{bit_of_and, one_is}
 use lib.IntN.{ℤ, pos}
 use lib.Lanes.{zip2, sel_l, mask_l, top, chunk}
 use mir.Syntax.{Width}
 use mir.Val.{bits, hbits, of_z, to_z, SFits}
 use Rattle.num_folds.specs.Lanes.{at, Marks}
-
-pub one_is : (b : Bool) → eqb (cond b 1 0) 1 ≡ b
-one_is true = refl
-one_is false = refl
 
 -- a vector of n lanes whose lane k holds the bits a
 pub record Lane (n : ℕ) (lanes : List ℕ) (k a : ℕ) : Type 0 where

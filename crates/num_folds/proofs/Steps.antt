@@ -3,11 +3,10 @@ use Rattle.std.proofs.Common.{◌≡◌, ℕ, ◌+◌, ◌%◌, ◌^◌, ◌<◌
 use Rattle.std.proofs.lemmas.Nat.{and_le_l}
 use Rattle.std.proofs.lemmas.Simd.{bit_mask_l, mask_l-lt, get_or-chunk, length-chunk}
 use Rattle.std.specs.Int.{bit_at}
-use Rattle.bit_masks.proofs.Places.{bit_of_and}
+use Rattle.bit_masks.proofs.Places.{bit_of_and, one_is}
 use lib.Lanes.{mask_l, chunk}
 use Rattle.num_folds.specs.Lanes.{set_at, IsLaneCount, Marks}
 use Rattle.num_folds.specs.Totals.{both_at}
-use Rattle.num_folds.proofs.Lanes.{one_is}
 
 by_count : (P : ℕ → Type 0) (n : ℕ) → IsLaneCount n → P 4 → P 8 → P 16 → P n
 by_count P n count four eight sixteen =

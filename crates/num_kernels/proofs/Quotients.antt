@@ -11,6 +11,7 @@ use lib.Signed.{mag, mag_rem}
 use mir.Syntax.{Width}
 use mir.Val.{bits, hbits, of_z, to_z, SFits}
 use mir.ValLaws.{pow-bits}
+use Rattle.bit_masks.proofs.Places.{and_false}
 use Rattle.num_kernels.specs.Numbers.{holds}
 use Rattle.num_kernels.proofs.Numbers.{fits_holds, holds_fits}
 
@@ -46,10 +47,6 @@ least_by_minus_one w (negsuc a) (negsuc (suc b)) fx fy p q f = absurd (omega (ar
 or_false : (b : Bool) → b ≡ (b || not true)
 or_false true = refl
 or_false false = refl
-
-and_false : (b : Bool) → (b && false) ≡ false
-and_false true = refl
-and_false false = refl
 
 module _ (w : Width) (x y : ℤ) (fx : SFits w x) (fy : SFits w y) where
   least_fails : (eqb (of_z w x) (2 ^ hbits w) && eqb (of_z w y) (2 ^ bits w - 1)) ≡ not (holds w (int_div x y))
