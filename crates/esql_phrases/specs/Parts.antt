@@ -1,10 +1,10 @@
 -- The expressions of each form, without the numbers of their nodes.
 use Rattle.std.specs.Prelude.{ℕ, ◌+◌, max, nat_le, ℤ, pos, negsuc, Bool, true, false, if◌then◌else◌, List, [], ◌∷◌}
 use Rattle.esql_types.specs.declared.places.Span.{Span}
-use Rattle.esql_types.specs.declared.value.Kind.{Kind}
 use Rattle.esql_types.specs.declared.value.Kind.TheVariants as kind
 use Rattle.esql_types.specs.declared.value.Value.{Value}
 use Rattle.esql_types.specs.declared.value.Value.TheVariants as value
+use Rattle.esql_types.specs.Values.{kind_of_value}
 use Rattle.esql_ast.specs.declared.expr.BinaryOp.{BinaryOp}
 use Rattle.esql_ast.specs.declared.expr.BinaryOp.TheVariants.{Add, Sub, Mul, Div, Mod, Eq, Ne, Lt, Le, Gt, Ge, And, Or}
 use Rattle.esql_ast.specs.declared.expr.Expr.{Expr, roll-Expr, out-Expr}
@@ -46,18 +46,12 @@ negative (negsuc number) = negsuc number
 abbrev pub negative_value : ℤ → Value
 negative_value number = if is_integer number then value.Int (negative number) else value.Long (negative number)
 
-abbrev pub kind_of : Value → Kind
-kind_of (value.Int number) = kind.Integer
-kind_of (value.Long number) = kind.Long
-kind_of (value.Bool truth) = kind.Boolean
-kind_of (value.Text text) = kind.Keyword
-
 -- what stands for itself is of the last line, and a constant, a list, a column and a call without arguments have the depth 1
 abbrev pub primary : Span → Form → ℕ → Part
 primary span form depth = part_of span form depth 8
 
 abbrev pub constant_part : Value → Span → Part
-constant_part value span = primary span (form.Constant (value ∷ []) (kind_of value)) 1
+constant_part value span = primary span (form.Constant (value ∷ []) (kind_of_value value)) 1
 
 abbrev pub null_part : Span → Part
 null_part span = primary span (form.Constant [] kind.Null) 1

@@ -1,7 +1,7 @@
 //! The expression of each form, with its depth and its line.
 
 ghost use Rattle.std.specs.Prelude.{◌≡◌, ◌<◌, max, IfOk};
-ghost use Rattle.esql_phrases.specs.Parts.{join, span_of, part_of, primary, number_value, negative_value, kind_of, constant_part, null_part, list_part, column_part, star_part, call_part, group_part, cast_part, minus_part, not_part, line_of, binary_part, within_part, like_part, is_null_part};
+ghost use Rattle.esql_phrases.specs.Parts.{join, span_of, part_of, primary, number_value, negative_value, constant_part, null_part, list_part, column_part, star_part, call_part, group_part, cast_part, minus_part, not_part, line_of, binary_part, within_part, like_part, is_null_part};
 
 use crate::Part;
 use esql_ast::{BinaryOp, Expr, Form, NameAt, TextAt};
@@ -64,21 +64,10 @@ pub fn negative_value(number: i64) -> Value
     }
 }
 
-fn kind_of(value: &Value) -> Kind
-    ensures { result ≡ kind_of value.now }
-{
-    match value {
-        Value::Int(_) => Kind::Integer,
-        Value::Long(_) => Kind::Long,
-        Value::Bool(_) => Kind::Boolean,
-        Value::Text(_) => Kind::Keyword,
-    }
-}
-
 pub fn constant_part(alloc: Global, value: Value, span: Span) -> Part
     ensures { result ≡ constant_part value span }
 {
-    let kind = kind_of(&value);
+    let kind = value.kind();
     let cell = Cell::one(alloc, value);
     primary(span, Form::Constant { cell, kind }, 1)
 }

@@ -1,5 +1,4 @@
 pub mod Counts
-pub mod Numbers
 pub mod Patterns
 pub mod Places
 pub mod Spans

@@ -1,10 +1,19 @@
--- The order of values.
+-- The kinds of values, and their order.
 use Rattle.std.specs.Prelude.{ℕ}
 use Rattle.std.specs.declared.cmp.Ordering.{Ordering}
 use Rattle.std.specs.Ordering.{nat_cmp, int_cmp, bool_cmp}
 use Rattle.std.specs.Cmp.Lexicographic.{slice_cmp}
+use Rattle.esql_types.specs.declared.value.Kind.{Kind}
+use Rattle.esql_types.specs.declared.value.Kind.TheVariants.{Integer, Long as LongKind, Boolean as BooleanKind, Keyword as KeywordKind}
 use Rattle.esql_types.specs.declared.value.Value.{Value}
 use Rattle.esql_types.specs.declared.value.Value.TheVariants.{Int, Long, Bool as Boolean, Text as Keyword}
+
+-- the kind of a value
+abbrev pub kind_of_value : Value → Kind
+kind_of_value (Int _) = Integer
+kind_of_value (Long _) = LongKind
+kind_of_value (Boolean _) = BooleanKind
+kind_of_value (Keyword _) = KeywordKind
 
 -- the place of the value's variant
 abbrev pub variant_place : Value → ℕ

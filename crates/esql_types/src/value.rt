@@ -1,3 +1,6 @@
+ghost use Rattle.std.specs.Prelude.{◌≡◌};
+ghost use Rattle.esql_types.specs.Values.{kind_of_value};
+
 use crate::Text;
 
 /// The kinds of a column: four kinds of values, and the kind of the literal NULL and of what is made of nothing else.
@@ -21,6 +24,20 @@ pub enum Value {
     Bool(bool),
     /// A keyword, which is a UTF-8 text.
     Text(Text),
+}
+
+impl Value {
+    /// The kind of the value, which is never that of NULL. Takes no memory.
+    pub fn kind(&self) -> Kind
+        ensures { result ≡ kind_of_value self.now }
+    {
+        match self {
+            Value::Int(_) => Kind::Integer,
+            Value::Long(_) => Kind::Long,
+            Value::Bool(_) => Kind::Boolean,
+            Value::Text(_) => Kind::Keyword,
+        }
+    }
 }
 
 impl Default for Value {

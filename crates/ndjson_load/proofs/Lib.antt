@@ -1,5 +1,4 @@
 mod Wholes
-mod Spelling
 mod Documented
 mod Members
 mod Joins

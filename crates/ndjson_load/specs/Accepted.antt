@@ -1,7 +1,6 @@
 -- What a kind accepts of JSON.
-use Rattle.std.specs.Prelude.{ℕ, ◌&&◌, ℤ, Bool, true, false, nat_lt, List, length, codes, Option, Some, None, option_map, option_and_then, if◌then◌else◌}
-use Rattle.std.specs.Str.{all_ascii_digits, bytes_eq}
-use Rattle.std.specs.Str.Parse.{without_leading_sign, signed_digits_value}
+use Rattle.std.specs.Prelude.{ℕ, ℤ, Bool, true, false, List, codes, Option, Some, None, option_map, option_and_then, if◌then◌else◌}
+use Rattle.std.specs.Str.{bytes_eq}
 use Rattle.std.specs.Fmt.{signed_decimal}
 use Rattle.serde_json.specs.Data.{Data, null, boolean, number, string, array, object}
 use Rattle.serde_json.specs.Find.{as_i64}
@@ -9,15 +8,8 @@ use Rattle.esql_types.specs.declared.value.Kind.{Kind}
 use Rattle.esql_types.specs.declared.value.Kind.TheVariants.{Integer, Long as LongKind, Boolean, Keyword, Null}
 use Rattle.esql_types.specs.declared.value.Value.{Value}
 use Rattle.esql_types.specs.declared.value.Value.TheVariants.{Int, Long, Bool as Truth, Text as Word}
-use Rattle.esql_types.specs.Numbers.{fits_integer, fits_long}
-
--- a text spells a number where it is an optional sign and one ASCII digit or more
-abbrev pub is_spelled : List ℕ → Bool
-is_spelled text = nat_lt 0 (length (without_leading_sign text)) && all_ascii_digits (without_leading_sign text)
-
--- the long that a text spells
-abbrev pub spelled_long : List ℕ → Option ℤ
-spelled_long text = if is_spelled text && fits_long (signed_digits_value 10 text) then Some (signed_digits_value 10 text) else None
+use Rattle.number_rules.specs.Ranges.{fits_integer}
+use Rattle.number_rules.specs.Spelled.{spelled_long}
 
 -- a long: a number that `as_i64` gives, or a text that spells one
 abbrev pub long_of : Data → Option ℤ

@@ -1,7 +1,8 @@
 //! What a kind accepts of JSON.
 ghost use Rattle.std.specs.Prelude.{◌≡◌, IfOk};
 ghost use Rattle.serde_json.specs.View.{view};
-ghost use Rattle.ndjson_load.specs.Accepted.{accepted, long_of, integer_of, boolean_of, keyword_of, spelled_long, spelled_truth, integer_from, truth_text};
+ghost use Rattle.number_rules.specs.Spelled.{spelled_long};
+ghost use Rattle.ndjson_load.specs.Accepted.{accepted, long_of, integer_of, boolean_of, keyword_of, spelled_truth, integer_from, truth_text};
 ghost use Rattle.std.specs.String.{string_bytes};
 ghost use Rattle.std.specs.Prelude.{option_map};
 

@@ -2,21 +2,15 @@
 use Rattle.std.specs.Prelude.{ℕ, List, [], ◌∷◌, if◌then◌else◌}
 use Rattle.std.specs.Str.{bytes_eq}
 use Rattle.esql_types.specs.declared.value.Value.{Value}
-use Rattle.esql_types.specs.declared.value.Value.TheVariants.{Int, Long as LongValue, Bool as Truth, Text as TextValue}
 use Rattle.esql_types.specs.declared.value.Kind.{Kind}
-use Rattle.esql_types.specs.declared.value.Kind.TheVariants.{Integer, Long, Boolean, Keyword, Null}
+use Rattle.esql_types.specs.declared.value.Kind.TheVariants.{Integer, Long, Null}
 use Rattle.esql_types.specs.declared.names.Column.{Column}
+use Rattle.esql_types.specs.Values.{kind_of_value}
 use Rattle.esql_ast.specs.declared.expr.BinaryOp.{BinaryOp}
 use Rattle.esql_ast.specs.declared.expr.BinaryOp.TheVariants.{Add}
 use Rattle.esql_ast.specs.declared.expr.Expr.{Expr}
 use Rattle.esql_ast.specs.declared.expr.Form.TheOpen.{Form-F, Constant, List as Listed, Column as Named, Group, Binary}
 use Rattle.esql_ast.specs.declared.expr.Form.TheFolds.{fold-Expr}
-
-abbrev pub kind_of_value : Value → Kind
-kind_of_value (Int number) = Integer
-kind_of_value (LongValue number) = Long
-kind_of_value (Truth truth) = Boolean
-kind_of_value (TextValue text) = Keyword
 
 -- the kind of a list, whose values are of one kind
 abbrev pub kind_of_list : List Value → Kind

@@ -4,7 +4,7 @@ ghost use Rattle.esql_types.specs.Spans.{SpanFits};
 ghost use Rattle.esql_ast.specs.Fits.{ExprFits};
 ghost use Rattle.row_semantics.specs.Built.{IsBuilt, is_built_operator};
 ghost use Rattle.query_semantics.specs.Tables.{put_column};
-ghost use Rattle.query_semantics.specs.Kinds.{kind_of, kind_of_value, kind_of_list, kind_at, kind_of_binary, kind_of_sum};
+ghost use Rattle.query_semantics.specs.Kinds.{kind_of, kind_of_list, kind_at, kind_of_binary, kind_of_sum};
 ghost use Rattle.query_semantics.specs.Shapes.{has_column, unknown_in, first_of};
 
 use esql_ast::{BinaryOp, Expr, Form};
@@ -56,18 +56,7 @@ fn kind_of_list(values: &[Value]) -> Kind
 {
     match values {
         [] => Kind::Null,
-        [value, ..] => kind_of_value(value),
-    }
-}
-
-fn kind_of_value(value: &Value) -> Kind
-    ensures { result ≡ kind_of_value value.now }
-{
-    match value {
-        Value::Int(_) => Kind::Integer,
-        Value::Long(_) => Kind::Long,
-        Value::Bool(_) => Kind::Boolean,
-        Value::Text(_) => Kind::Keyword,
+        [value, ..] => value.kind(),
     }
 }
 

@@ -6,7 +6,7 @@ use Rattle.esql_types.specs.declared.cause.Cause.{Cause}
 use Rattle.esql_types.specs.declared.cause.Cause.TheVariants.{Multi, IntegerOverflow, LongOverflow}
 use Rattle.esql_types.specs.declared.cause.Failure.{Failure}
 use Rattle.esql_types.specs.declared.names.NodeId.{NodeId}
-use Rattle.esql_types.specs.Numbers.{fits_integer, fits_long}
+use Rattle.number_rules.specs.Ranges.{fits_integer, fits_long}
 use Rattle.esql_ast.specs.declared.expr.BinaryOp.{BinaryOp}
 use Rattle.esql_ast.specs.declared.expr.BinaryOp.TheVariants.{Add}
 use Rattle.esql_ast.specs.declared.expr.Expr.{Expr}

@@ -1,5 +1,5 @@
 use Rattle.std.proofs.Common.{◌∙◌}
-use Rattle.ndjson_load.proofs.Spelling.{spelled_long-parse}
+use Rattle.number_rules.proofs.Spelling.{spelled_long-parse}
 use Rattle.ndjson_load.proofs.accept.spelled.Goals as goal
 
 pub returns : goal.returns

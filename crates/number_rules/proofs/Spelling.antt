@@ -1,15 +1,19 @@
--- What `parse` reads as a long, beside the test of the definition.
+-- What `parse` reads as an integer and as a long, beside the definitions.
 use Rattle.std.proofs.Common.{◌≡◌, ℕ, ◌^◌, ℤ, pos, negsuc, Bool, true, false, cond, ltb, List, length, Result, Ok, Err, Some, None, Decides, refl, ap}
 use Rattle.std.specs.Prelude.{FitsSigned}
-use Rattle.std.specs.Int.{w64}
+use Rattle.std.specs.Int.{w32, w64}
 use Rattle.std.specs.Result.{OkIff, result_ok}
 use Rattle.std.specs.Str.{all_ascii_digits}
 use Rattle.std.specs.Str.Parse.{IsNumeral, ParsesSigned, without_leading_sign, signed_digits_value, digits_value}
 use Rattle.std.proofs.lemmas.Bool.{false≢true}
 use Rattle.std.proofs.lemmas.Bool.Decides.{Decides-and, Decides-ltb}
 use Rattle.std.proofs.lemmas.Str.Parse.{IsNumeralModel, numerals_by_value, tells_all_ascii_digits}
-use Rattle.esql_types.specs.Numbers.{fits_long}
-use Rattle.ndjson_load.specs.Accepted.{is_spelled, spelled_long}
+use Rattle.number_rules.specs.Ranges.{fits_integer, fits_long}
+use Rattle.number_rules.specs.Spelled.{is_spelled, spelled_integer, spelled_long}
+
+fits_integer-Decides : (z : ℤ) → Decides (fits_integer z) (FitsSigned w32 z)
+fits_integer-Decides (pos n) = (λ e. record { sfits = (Decides-ltb n (2 ^ 31)).0 e }, λ f. (Decides-ltb n (2 ^ 31)).1 f.sfits)
+fits_integer-Decides (negsuc n) = (λ e. record { sfits = (Decides-ltb n (2 ^ 31)).0 e }, λ f. (Decides-ltb n (2 ^ 31)).1 f.sfits)
 
 fits_long-Decides : (z : ℤ) → Decides (fits_long z) (FitsSigned w64 z)
 fits_long-Decides (pos n) = (λ e. record { sfits = (Decides-ltb n (2 ^ 63)).0 e }, λ f. (Decides-ltb n (2 ^ 63)).1 f.sfits)
@@ -33,3 +37,7 @@ result_ok-test (Err e) v false h d = refl
 pub spelled_long-parse : {E : Type 0} (text : List ℕ) (r : Result ℤ E) → ParsesSigned w64 10 text r → result_ok r ≡ spelled_long text
 spelled_long-parse text r parses =
     result_ok-test r (signed_digits_value 10 text) _ parses (Decides-and _ _ (is_spelled-Decides text) (fits_long-Decides (signed_digits_value 10 text)))
+
+pub spelled_integer-parse : {E : Type 0} (text : List ℕ) (r : Result ℤ E) → ParsesSigned w32 10 text r → result_ok r ≡ spelled_integer text
+spelled_integer-parse text r parses =
+    result_ok-test r (signed_digits_value 10 text) _ parses (Decides-and _ _ (is_spelled-Decides text) (fits_integer-Decides (signed_digits_value 10 text)))
