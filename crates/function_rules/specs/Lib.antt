@@ -1,0 +1,6 @@
+pub mod Conversions
+pub mod Found
+pub mod Lists
+pub mod Logic
+pub mod Texts
+pub mod Wildcards

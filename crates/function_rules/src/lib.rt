@@ -1,0 +1,6 @@
+//! What each function of the language does on numbers, texts and lists, in the sense of the ES|QL language reference. These
+//! definitions name no cell of a table, so that the evaluation of a row, kernels over columns and the folding of
+//! constants cite the same ones.
+//!
+//! Read its specs in this order: `Logic`, `Texts`, `Wildcards`, `Found`, `Conversions`, `Lists`.
+#![tactic(auto)]
