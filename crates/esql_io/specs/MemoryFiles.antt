@@ -3,6 +3,7 @@ use Rattle.std.specs.Prelude.{ℕ, Bool, List, [], ◌∷◌, drop, length, min,
 use Rattle.std.specs.Str.{bytes_eq}
 use Rattle.std.specs.Option.{option_map_or}
 use Rattle.esql_types.specs.Counts.{is_listed}
+use Rattle.esql_io.specs.Files.{Held}
 use Rattle.esql_io.specs.declared.memory_files.HeldFile.{HeldFile}
 use Rattle.esql_io.specs.declared.memory_files.OpenFile.{OpenFile}
 
@@ -22,6 +23,10 @@ pub record MemoryFilesState : Type 0 where
 abbrev pub held_in : List HeldFile → List ℕ → Option (List ℕ)
 held_in [] name = None
 held_in (file ∷ files) name = if bytes_eq file.name name then Some file.bytes else held_in files name
+
+-- they tell what they hold
+abbrev pub holds_of : MemoryFilesState → Held
+holds_of state = Some (held_in state.files)
 
 -- the next call fails: its number is one that fails
 abbrev pub is_failing : MemoryFilesState → Bool

@@ -1,5 +1,5 @@
 ghost use Rattle.std.specs.Prelude.{◌≡◌, ◌≤◌, ℕ, List, Option, Some, None, drop, length, option_map, if◌then◌else◌, OnOk, OnErr, IfOk, IfSome};
-ghost use Rattle.esql_types.specs.Counts.{Rose};
+ghost use Rattle.esql_io.specs.Calls.{Called};
 ghost use Rattle.esql_io.specs.Files.{Held, whole_of, nothing_left, IsFound, ReadsNext};
 
 /// A call on files or on a sink failed, and was counted as a fault.
@@ -30,28 +30,19 @@ pub trait Files {
         ensures found { IfOk result (λ found. IsFound (holds self.old) name.now found) }
         ensures opened { IfOk result (λ found. opened self.new ≡ (if found then Some name.now else None)) }
         ensures whole { IfOk result (λ found. left self.new ≡ whole_of (holds self.old) name.now) }
-        ensures kept { OnOk result (failed self.new ≡ failed self.old) }
-        ensures uncounted { OnOk result (faults self.new ≡ faults self.old) }
-        ensures rose { OnErr result (Rose (faults self.old) (faults self.new)) }
         ensures closed { OnErr result (opened self.new ≡ None) }
         ensures nothing { OnErr result (left self.new ≡ nothing_left (holds self.old)) }
-        ensures name { OnErr result (failed self.new ≡ name.now) }
-        ensures holds { holds self.new ≡ holds self.old }
-        ensures faults { faults self.old ≤ faults self.new };
+        ensures called { Called holds faults failed (Some name.now) result self.old self.new };
 
-    /// Reads the next bytes of the open file into the front of a piece, and answers how many. After a failure no file
-    /// is open.
+    /// Reads the next bytes of the open file into the front of a piece, and answers how many: none where no file is open.
+    /// After a failure no file is open.
     fn read(&mut self, into: &mut [u8]) -> Result<usize, Failed>
         ensures count { IfOk result (λ count. count ≤ length into.old) }
         ensures next { IfOk result (λ count. IfSome (left self.old) (λ rest. ReadsNext rest count into.old into.new)) }
         ensures moved { IfOk result (λ count. left self.new ≡ option_map (drop count) (left self.old)) }
         ensures same { OnOk result (opened self.new ≡ opened self.old) }
-        ensures kept { OnOk result (failed self.new ≡ failed self.old) }
-        ensures uncounted { OnOk result (faults self.new ≡ faults self.old) }
-        ensures rose { OnErr result (Rose (faults self.old) (faults self.new)) }
+        ensures none { IfOk result (λ count. opened self.old ≡ None → count ≡ 0) }
         ensures closed { OnErr result (opened self.new ≡ None) }
         ensures nothing { OnErr result (left self.new ≡ nothing_left (holds self.old)) }
-        ensures name { OnErr result (IfSome (opened self.old) (λ name. failed self.new ≡ name)) }
-        ensures holds { holds self.new ≡ holds self.old }
-        ensures faults { faults self.old ≤ faults self.new };
+        ensures called { Called holds faults failed (opened self.old) result self.old self.new };
 }

@@ -1,9 +1,10 @@
 ghost use Rattle.std.specs.Prelude.{◌≡◌, ◌≤◌, ◌<◌, ◌+◌, ℕ, [], ◌++◌, Some, None, true, false, drop, take, length, option_map, slice_get, is_some, unwrap_or, if◌then◌else◌, MatchOption, IsSome, OnOk, OnErr, IfOk, IfSome};
 ghost use Rattle.std.specs.Option.{option_copied};
 ghost use Rattle.std.specs.List.{list_any};
-ghost use Rattle.esql_types.specs.Counts.{Rose, next_count};
+ghost use Rattle.esql_types.specs.Counts.{next_count};
+ghost use Rattle.esql_io.specs.Calls.{Called};
 ghost use Rattle.esql_io.specs.Files.{whole_of, nothing_left, IsFound, ReadsNext};
-ghost use Rattle.esql_io.specs.MemoryFiles.{held_in, is_failing, read_count, opened_name, left_of};
+ghost use Rattle.esql_io.specs.MemoryFiles.{held_in, is_failing, read_count, opened_name, left_of, holds_of};
 
 use crate::{Failed, Files};
 use esql_types::{Name, Noted, Seq, Text};
@@ -155,7 +156,7 @@ fn cursor_after(bytes: &[u8], cursor: usize, count: usize) -> usize
 }
 
 impl Files for MemoryFiles {
-    ghost holds = { λ m. Some (held_in m.files) };
+    ghost holds = { holds_of };
 
     ghost opened = { λ m. m.opened };
 
@@ -170,14 +171,9 @@ impl Files for MemoryFiles {
         ensures found { IfOk result (IsFound (Some (held_in self.old.files)) name.now) }
         ensures opened { IfOk result (λ found. self.new.opened ≡ (if found then Some name.now else None)) }
         ensures whole { IfOk result (λ found. Some self.new.left ≡ whole_of (Some (held_in self.old.files)) name.now) }
-        ensures kept { OnOk result (self.new.failed ≡ self.old.failed) }
-        ensures uncounted { OnOk result (self.new.faults ≡ self.old.faults) }
-        ensures rose { OnErr result (Rose self.old.faults self.new.faults) }
         ensures closed { OnErr result (self.new.opened ≡ None) }
         ensures nothing { OnErr result (Some self.new.left ≡ nothing_left (Some (held_in self.old.files))) }
-        ensures name { OnErr result (self.new.failed ≡ name.now) }
-        ensures holds { Some (held_in self.new.files) ≡ Some (held_in self.old.files) }
-        ensures faults { self.old.faults ≤ self.new.faults }
+        ensures called { Called holds_of (λ m. m.faults) (λ m. m.failed) (Some name.now) result self.old self.new }
         ensures failing { OnErr result (is_failing self.old ≡ true) }
         ensures working { OnOk result (is_failing self.old ≡ false) }
         ensures after_ok { IfOk result (λ found. self.new ≡ record self.old {
@@ -216,14 +212,10 @@ impl Files for MemoryFiles {
         ensures next { IfOk result (λ count. IfSome (Some self.old.left) (λ rest. ReadsNext rest count into.old into.new)) }
         ensures moved { IfOk result (λ count. Some self.new.left ≡ option_map (drop count) (Some self.old.left)) }
         ensures same { OnOk result (self.new.opened ≡ self.old.opened) }
-        ensures kept { OnOk result (self.new.failed ≡ self.old.failed) }
-        ensures uncounted { OnOk result (self.new.faults ≡ self.old.faults) }
-        ensures rose { OnErr result (Rose self.old.faults self.new.faults) }
+        ensures none { IfOk result (λ count. self.old.opened ≡ None → count ≡ 0) }
         ensures closed { OnErr result (self.new.opened ≡ None) }
         ensures nothing { OnErr result (Some self.new.left ≡ nothing_left (Some (held_in self.old.files))) }
-        ensures name { OnErr result (IfSome self.old.opened (λ name. self.new.failed ≡ name)) }
-        ensures holds { Some (held_in self.new.files) ≡ Some (held_in self.old.files) }
-        ensures faults { self.old.faults ≤ self.new.faults }
+        ensures called { Called holds_of (λ m. m.faults) (λ m. m.failed) self.old.opened result self.old self.new }
         ensures failing { OnErr result (is_failing self.old ≡ true) }
         ensures exact { IfOk result (λ count.
             (is_failing self.old ≡ false) × (count ≡ read_count self.old (length into.old))) }
