@@ -17,9 +17,9 @@ use Rattle.esql_types.specs.declared.value.Value.{Value}
 use Rattle.esql_types.specs.declared.text.Text.{Text}
 use Rattle.esql_ast.specs.Nodes.{nodes_in, own_and_inner, nodes_of_expr, nodes_of_form}
 
-pub joined_map : {X : Type 0} (f : X → List NodeAt) (xs : List X) → flat_map (λ places. places) (map f xs) ≡ flat_map f xs
+pub joined_map : {X Y : Type 0} (f : X → List Y) (xs : List X) → flat_map (λ parts. parts) (map f xs) ≡ flat_map f xs
 joined_map f [] = refl
-joined_map f (x ∷ xs) = ap (λ (places : List NodeAt). f x ++ places) (joined_map f xs)
+joined_map {Y = Y} f (x ∷ xs) = ap (λ (parts : List Y). f x ++ parts) (joined_map f xs)
 
 -- the nodes of an expression: its own, then those of its form
 pub expr_nodes : (expr : Expr) → nodes_of_expr expr ≡ record { node = expr.node; span = expr.span } ∷ nodes_of_form expr.form

@@ -3,8 +3,11 @@ pub mod Numberings
 pub mod Renumbered
 pub mod InTurn
 pub mod QueryInTurn
+pub mod SpanParts
+pub mod KeepsSpans
 pub mod KeepsFit
 pub mod NumberedQuery
 pub mod PartsFit
+pub mod NodesFit
 pub mod DepthParts
 pub mod KeepsDepth

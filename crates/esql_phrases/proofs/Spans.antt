@@ -33,7 +33,8 @@ kind_to : {x : Lexeme} {kind : NameAt} → IsKindName x kind → (span_at x).to 
 kind_to (plain_kind kind) = refl
 kind_to (dotted_kind kind) = refl
 
-from_first : {n : ℕ} {w : List Lexeme} {p : Part} → Phrase n w p → (v : List Lexeme) → first_from (w ++ v) ≡ (span_of p).from
+-- lexemes that begin with a phrase begin where its span does
+pub from_first : {n : ℕ} {w : List Lexeme} {p : Part} → Phrase n w p → (v : List Lexeme) → first_from (w ++ v) ≡ (span_of p).from
 from_first (looser p) v = from_first p v
 from_first (number_line number at) v = refl
 from_first (text_line text) v = refl
@@ -60,7 +61,8 @@ is_last : {n : Bool} {m : List Lexeme} {null : Span} → IsWords n m null → (u
 is_last (is_words is null) u = closing_one u (Word word.Is is ∷ []) (Word word.Null null)
 is_last (is_not_words is not null) u = closing_one u (Word word.Is is ∷ Word word.Not not ∷ []) (Word word.Null null)
 
-to_last : {n : ℕ} {w : List Lexeme} {p : Part} → Phrase n w p → (u : List Lexeme) → last_to (u ++ w) ≡ (span_of p).to
+-- lexemes that end with a phrase end where its span does
+pub to_last : {n : ℕ} {w : List Lexeme} {p : Part} → Phrase n w p → (u : List Lexeme) → last_to (u ++ w) ≡ (span_of p).to
 to_last (looser p) u = to_last p u
 to_last (number_line number at) u = last_one u (Number number at)
 to_last (text_line text) u = last_one u (Text text)
