@@ -1,5 +1,5 @@
--- Where an expression fits its text, the spans of its nodes are parts of it.
-use Rattle.std.proofs.Common.{◌≡◌, ℕ, List, [], ◌∷◌, ◌++◌, map, All, refl, sym, ap, subst, ◌∙◌}
+-- Where an expression, a field or a command fits its text, the spans of its nodes are parts of it.
+use Rattle.std.proofs.Common.{◌≡◌, ℕ, List, [], ◌∷◌, ◌++◌, map, get_or, All, Option, Some, None, IfSome, refl, sym, ap, subst, ◌∙◌}
 use Rattle.std.specs.List.{flat_map}
 use Rattle.std.proofs.lemmas.List.Elements.{All-nil, All-cons, All-head, All-tail, All-same, All-append}
 use denote.Hole.Holds.{Such}
@@ -13,10 +13,16 @@ use Rattle.esql_ast.specs.declared.expr.Form.TheBlock.{the_family, member-Form, 
 use Rattle.esql_ast.specs.declared.expr.Form.TheOpen.{Expr-F, Form-F, Constant, List as Listed, Column, Group, Call, Minus, Not, Binary, Within, Like, IsNull, Cast}
 use Rattle.esql_ast.specs.declared.expr.Form.TheViews.{roll-Form, roll-Expr}
 use Rattle.esql_ast.specs.declared.expr.Form.TheFolds.{claims, map-Form, map-Expr, fold-roll-Form, fold-roll-Expr, ind-Expr}
-use Rattle.esql_ast.specs.Fits.{ExprFits, FormFits}
-use Rattle.esql_ast.specs.Nodes.{nodes_in, own_and_inner, nodes_of_expr, nodes_of_form}
+use Rattle.esql_ast.specs.declared.query.Condition.{Condition}
+use Rattle.esql_ast.specs.declared.query.Field.{Field}
+use Rattle.esql_ast.specs.declared.query.StatsField.{StatsField}
+use Rattle.esql_ast.specs.declared.query.CommandKind.{CommandKind}
+use Rattle.esql_ast.specs.declared.query.CommandKind.TheVariants.{Filter, Eval, Keep, Drop, Rename, Sort, Limit, Expand, Stats, Dissect, Grok, Enrich, Join}
+use Rattle.esql_ast.specs.Fits.{ExprFits, FormFits, FieldsFit, ConditionFits, StatsFits, KindFits}
+use Rattle.esql_ast.specs.Nodes.{nodes_in, own_and_inner, nodes_of_expr, nodes_of_form, nodes_of_field, nodes_of_condition, nodes_of_stats, nodes_of_key, nodes_of_kind}
 use Rattle.esql_ast.specs.Spans.{spans_in, own_and_within, spans_of_expr, spans_of_form}
 use Rattle.esql_ast.proofs.Folds.{joined_map}
+use Rattle.esql_ast.proofs.PartsFit.{own_span_fits}
 
 abbrev pub NodesFit : List ℕ → List NodeAt → Type 0
 NodesFit text nodes = All (λ (place : NodeAt). SpanFits text place.span) nodes
@@ -134,3 +140,38 @@ every_expr =
 -- the spans of an expression's nodes are among its spans
 pub expr_nodes_fit : (text : List ℕ) (expr : Expr) → ExprFits text expr → NodesFit text (nodes_of_expr expr)
 expr_nodes_fit text expr fits = every_expr expr text fits
+
+-- ---- fields and commands
+
+pub fields_nodes_fit : (text : List ℕ) (fields : List Field) → FieldsFit text fields → NodesFit text (flat_map nodes_of_field fields)
+fields_nodes_fit text fields fits = flat_fits nodes_of_field fields (λ k d within. expr_nodes_fit text (get_or fields k d).expr (fits k d within).expr)
+
+-- a condition's node has the span of its expression
+condition_nodes_fit : (text : List ℕ) (field : Field) (condition : Option Condition) → IfSome condition (ConditionFits text field) → NodesFit text (nodes_of_condition condition)
+condition_nodes_fit text field None fits = no_nodes text
+condition_nodes_fit text field (Some condition) fits =
+    node_then (record { node = condition.node; span = condition.expr.span }) (nodes_of_expr condition.expr) (own_span_fits text condition.expr fits.expr)
+    (expr_nodes_fit text condition.expr fits.expr)
+
+stats_nodes_fit : (text : List ℕ) (stats : StatsField) → StatsFits text stats → NodesFit text (nodes_of_stats stats)
+stats_nodes_fit text stats fits =
+    nodes_then (nodes_of_field stats.field) (nodes_of_condition stats.condition) (expr_nodes_fit text stats.field.expr fits.field.expr)
+    (condition_nodes_fit text stats.field stats.condition fits.condition)
+
+-- where what a command says fits the text, the spans of its nodes are parts of it
+pub kind_nodes_fit : (text : List ℕ) (kind : CommandKind) → KindFits text kind → NodesFit text (nodes_of_kind kind)
+kind_nodes_fit text (Filter condition) fits = expr_nodes_fit text condition fits
+kind_nodes_fit text (Eval fields) fits = fields_nodes_fit text fields fits
+kind_nodes_fit text (Keep patterns) fits = no_nodes text
+kind_nodes_fit text (Drop patterns) fits = no_nodes text
+kind_nodes_fit text (Rename pairs) fits = no_nodes text
+kind_nodes_fit text (Sort keys) fits = flat_fits nodes_of_key keys (λ k d within. expr_nodes_fit text (get_or keys k d).expr (fits k d within))
+kind_nodes_fit text (Limit count) fits = no_nodes text
+kind_nodes_fit text (Expand column) fits = no_nodes text
+kind_nodes_fit text (Stats fields groups) fits =
+    nodes_then (flat_map nodes_of_stats fields) (flat_map nodes_of_field groups)
+    (flat_fits nodes_of_stats fields (λ k d within. stats_nodes_fit text (get_or fields k d) (fits.0 k d within))) (fields_nodes_fit text groups fits.1)
+kind_nodes_fit text (Dissect input pattern separator) fits = expr_nodes_fit text input fits.0
+kind_nodes_fit text (Grok input pattern) fits = expr_nodes_fit text input fits.0
+kind_nodes_fit text (Enrich policy on fields) fits = no_nodes text
+kind_nodes_fit text (Join table on) fits = no_nodes text
