@@ -8,7 +8,6 @@ use Rattle.esql_lex.specs.declared.token.Token.{Token}
 use Rattle.esql_lex.specs.declared.token.Reserved.TheVariants as word
 use Rattle.esql_lex.specs.declared.token.Sign.TheVariants as sign
 use Rattle.esql_lex.specs.Tokens.{FitsText}
-use Rattle.esql_ast.specs.declared.nodes.NodeAt.{NodeAt}
 use Rattle.esql_ast.specs.declared.query.Command.{Command}
 use Rattle.esql_ast.specs.declared.query.EnrichItem.{EnrichItem}
 use Rattle.esql_ast.specs.declared.query.Field.{Field}
