@@ -19,14 +19,14 @@ pub fn integer_of_long(number: i64) -> Option<i32>
 pub fn integer_of_text(text: &str) -> Option<i32>
     ensures { result ≡ spelled_integer text.now }
 {
-    text.parse().ok()
+    text.parse::<i32>().ok()
 }
 
 /// The long that a text spells: a sign or none, and digits. `None` where it spells none.
 pub fn long_of_text(text: &str) -> Option<i64>
     ensures { result ≡ spelled_long text.now }
 {
-    text.parse().ok()
+    text.parse::<i64>().ok()
 }
 
 /// The boolean as a number: 1 where it is true, else 0.

@@ -1,10 +1,12 @@
 //! Arithmetic, comparison and sums.
-ghost use Rattle.std.specs.Prelude.{◌≡◌};
+ghost use Rattle.std.specs.Prelude.{◌≡◌, pos};
 ghost use Rattle.number_rules.specs.Arithmetic.{arithmetic, negated, absolute};
 ghost use Rattle.number_rules.specs.Comparisons.{compares};
+ghost use Rattle.number_rules.specs.Sums.{plus_128, sum_in};
 
 use number_rules::{Arithmetic, Comparison, NumberFault};
 use std::cmp::Ordering;
+use std::marker::Model;
 
 /// The result of an operation on integers.
 ///
@@ -113,5 +115,54 @@ pub fn holds(op: Comparison, order: Ordering) -> bool
         Comparison::LessEqual => order.is_le(),
         Comparison::Greater => order.is_gt(),
         Comparison::GreaterEqual => order.is_ge(),
+    }
+}
+
+/// A sum of numbers in order, in 128 bits. A sum that has left them stays without a value.
+///
+/// Contracts see it as the sum so far, or as `None`.
+#[derive(Debug, Drop)]
+pub struct Sum {
+    total: Option<i128>,
+}
+
+impl Model for Sum {
+    ghost use Rattle.std.specs.Prelude.{Option, ℤ};
+
+    ghost Value = { Option ℤ };
+
+    ghost view = { λ sum. sum.total };
+}
+
+impl Sum {
+    /// The sum of no numbers.
+    pub fn new() -> Sum
+        ensures { result ≡ Some (pos 0) }
+    {
+        Sum { total: Some(0) }
+    }
+
+    /// Adds one more number.
+    pub fn add(&mut self, number: i64)
+        ensures { self.new ≡ plus_128 self.old number }
+    {
+        self.total = match self.total {
+            Some(total) => total.checked_add(i128::from(number)),
+            None => None,
+        };
+    }
+
+    /// The sum, where it is an integer and no partial sum has left 128 bits.
+    pub fn integer(self) -> Option<i32>
+        ensures { result ≡ sum_in 31 self }
+    {
+        i32::try_from(self.total?).ok()
+    }
+
+    /// The sum, where it is a long and no partial sum has left 128 bits.
+    pub fn long(self) -> Option<i64>
+        ensures { result ≡ sum_in 63 self }
+    {
+        i64::try_from(self.total?).ok()
     }
 }
