@@ -1,5 +1,5 @@
 -- Quotients and remainders.
-use Rattle.std.proofs.Common.{◌≡◌, ◌≢◌, ℕ, zero, suc, ◌+◌, ◌<◌, ◌^◌, ℤ, pos, negsuc, neg_ℤ, ◌+ℤ◌, ◌*ℤ◌, ◌≤ℤ◌, Err, Ok, refl, sym, arith, rules}
+use Rattle.std.proofs.Common.{◌≡◌, ◌≢◌, ℕ, zero, suc, ◌<◌, ◌^◌, ℤ, pos, negsuc, neg_ℤ, ◌+ℤ◌, ◌*ℤ◌, ◌≤ℤ◌, Err, Ok, refl, sym, arith}
 use Rattle.std.specs.Prelude.{unsigned_abs, int_div, int_rem}
 use Rattle.std.proofs.lemmas.Int.{quot-rem, rem_below, ints}
 use Rattle.std.proofs.lemmas.Nat.{pow_pos}

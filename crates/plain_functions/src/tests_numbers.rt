@@ -17,9 +17,16 @@ fn edges_of_arithmetic(rt: HostRuntime) {
         (Arithmetic::Mod, -2147483648, -1, Ok(0)),
     ];
     for (op, left, right, wanted) in integers {
-        assert_eq!(rt; arithmetic_integers(op, left, right), wanted, "{op:?} of {left} and {right}");
+        assert_eq!(rt;
+            arithmetic_integers(op, left, right),
+            wanted,
+            "{op:?} of {left} and {right}"
+        );
     }
-    assert_eq!(rt; arithmetic_longs(Arithmetic::Div, i64::MIN, -1), Err(NumberFault::Overflow));
+    assert_eq!(rt;
+        arithmetic_longs(Arithmetic::Div, i64::MIN, -1),
+        Err(NumberFault::Overflow)
+    );
     assert_eq!(rt; arithmetic_longs(Arithmetic::Mod, i64::MIN, -1), Ok(0));
     assert_eq!(rt; negate_integer(i32::MIN), Err(NumberFault::Overflow));
     assert_eq!(rt; negate_long(i64::MAX), Ok(-9223372036854775807));
