@@ -1,5 +1,5 @@
 -- The ranges of numbers.
-use Rattle.std.specs.Prelude.{ℕ, ◌^◌, ℤ, pos, negsuc, Bool, nat_lt}
+use Rattle.std.specs.Prelude.{ℕ, ◌^◌, ℤ, pos, negsuc, Bool, IsTrue, nat_lt}
 
 -- a number with a sign and so many bits beside it
 abbrev pub fits_bits : ℕ → ℤ → Bool
@@ -13,6 +13,9 @@ fits_integer = fits_bits 31
 -- the number is a long of 64 bits
 abbrev pub fits_long : ℤ → Bool
 fits_long = fits_bits 63
+
+abbrev pub IsLong : ℤ → Type 0
+IsLong number = IsTrue (fits_long number)
 
 -- the number has 128 bits, as a partial sum has
 abbrev pub fits_128 : ℤ → Bool

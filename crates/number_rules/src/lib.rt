@@ -5,6 +5,8 @@
 //! Read its specs in this order: `Ranges`, `Arithmetic`, `Comparisons`, `Spelled`, `Sums`.
 #![tactic(auto)]
 
+pub mod laws;
+
 /// An operation of arithmetic on two numbers.
 #[derive(Clone, Copy, Debug, PartialEq, Eq)]
 pub enum Arithmetic {

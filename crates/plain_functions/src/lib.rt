@@ -1,3 +1,17 @@
 //! The functions of the language on plain values: one body per function, on texts, numbers and lists of values, exact by its
 //! rule. The evaluation of a row and the kernels over columns call them.
 #![tactic(auto)]
+
+mod conversions;
+mod numbers;
+#[cfg(test)]
+mod tests_numbers;
+
+pub use conversions::{
+    integer_of_long, integer_of_text, integer_of_truth, long_of_text, text_of_number,
+    text_of_truth, truth_of_number, truth_of_text,
+};
+pub use numbers::{
+    Sum, absolute_integer, absolute_long, arithmetic_integers, arithmetic_longs, holds,
+    negate_integer, negate_long,
+};
