@@ -17,11 +17,12 @@ module _ {Item : Type 0} where
   best_stands {beats} weak first others =
       let found = IsFirstBest-from_best_of weak first others in
       let place = found.0 in
-      let items = first ∷ others in
-      (subst (Contains items) found.2 (Contains-get_or items place first found.1.0),
+      let items = first ∷ others in (
+        subst (Contains items) found.2 (Contains-get_or items place first found.1.0),
         λ k d within.
-          let same : get_or items place d ≡ best_of beats first others = get_or_default items place d first found.1.0 ∙ found.2 in
-          ap (beats (get_or items k d)) (sym same) ∙ found.1.1 k d within)
+            let same : get_or items place d ≡ best_of beats first others = get_or_default items place d first found.1.0 ∙ found.2 in
+            ap (beats (get_or items k d)) (sym same) ∙ found.1.1 k d within,
+      )
 
   module _ (order : Item → Item → Ordering) where
     least_as_best : (items : List Item) (best : Item) → best_of (λ x y. is_lt (order x y)) best items ≡ least_from order best items

@@ -6,9 +6,13 @@ use Rattle.function_rules.specs.Lists.{between_places, first_place, place_of, sl
 
 between_part : {Item : Type 0} (items : List Item) (from : ℕ) (to : ℤ)
     → (front : List Item) × ((back : List Item) × (items ≡ front ++ between_places items from to ++ back))
-between_part items from (pos to) =
-    (take from (take (to + 1) items), (drop (to + 1) items,
-      sym (take-append-drop (to + 1) items) ∙ ap (λ front. front ++ drop (to + 1) items) (sym (take-append-drop from (take (to + 1) items)))))
+between_part items from (pos to) = (
+  take from (take (to + 1) items),
+  (
+    drop (to + 1) items,
+    sym (take-append-drop (to + 1) items) ∙ ap (λ front. front ++ drop (to + 1) items) (sym (take-append-drop from (take (to + 1) items))),
+  ),
+)
 between_part items from (negsuc below) = (items, ([], sym (append-nil (items ++ []) ∙ append-nil items)))
 
 pub slice_part : {Item : Type 0} (items : List Item) (start end : ℤ)

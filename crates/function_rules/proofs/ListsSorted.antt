@@ -101,7 +101,7 @@ module _ {Item : Type 0} (order : Item → Item → Ordering) where
         let P : Item → Type 0 = λ other. is_lt (order other first) ≡ false in
         sorted_more first (put_in_order order item rest)
         (All-permutation P (item ∷ rest) (put_in_order order item rest) (put_permutes item rest)
-          (All-cons P item rest (gt_not_lt (order item first) is) (sorted_head first rest up)))
+        (All-cons P item rest (gt_not_lt (order item first) is) (sorted_head first rest up)))
         inner
     put_sorted_at false item first rest is up inner =
         let P : Item → Type 0 = λ other. is_lt (order other item) ≡ false in
@@ -125,17 +125,17 @@ module _ {Item : Type 0} (order : Item → Item → Ordering) where
     first_not_before left right lefts rights up same =
         true_or_false (is_lt (order right left))
         (λ before.
-          let test : Item → Bool = λ other. not (is_lt (order right other)) in
-          let P : Item → Type 0 = λ other. test other ≡ false in
-          let none : count_by test (left ∷ lefts) ≡ 0 =
-            count_none test (left ∷ lefts) (All-cons P left lefts (ap not before)
-              (λ k d within. ap not (true_or_false (is_lt (order right (get_or lefts k d))) (λ e. e)
-                (λ fails. absurd (true≢false (sym before ∙ weak.chain right (get_or lefts k d) left fails (sorted_head left lefts up k d within))))))) in
-          let itself : is_lt (order right right) ≡ false =
-            true_or_false (is_lt (order right right)) (λ e. weak.one_way right right e) (λ e. e) in
-          let some : 0 < count_by test (right ∷ rights) = count_one test right rights (ap not itself) in
-          let equal : count_by test (left ∷ lefts) ≡ count_by test (right ∷ rights) = same test in
-          absurd (omega arith))
+        let test : Item → Bool = λ other. not (is_lt (order right other)) in
+        let P : Item → Type 0 = λ other. test other ≡ false in
+        let none : count_by test (left ∷ lefts) ≡ 0 =
+        count_none test (left ∷ lefts) (All-cons P left lefts (ap not before)
+        (λ k d within. ap not (true_or_false (is_lt (order right (get_or lefts k d))) (λ e. e)
+        (λ fails. absurd (true≢false (sym before ∙ weak.chain right (get_or lefts k d) left fails (sorted_head left lefts up k d within))))))) in
+        let itself : is_lt (order right right) ≡ false =
+        true_or_false (is_lt (order right right)) (λ e. weak.one_way right right e) (λ e. e) in
+        let some : 0 < count_by test (right ∷ rights) = count_one test right rights (ap not itself) in
+        let equal : count_by test (left ∷ lefts) ≡ count_by test (right ∷ rights) = same test in
+        absurd (omega arith))
         (λ e. e)
 
     pub same_sorted : (exact : (x y : Item) → order x y ≡ Equal → x ≡ y) (left right : List Item)
@@ -147,12 +147,12 @@ module _ {Item : Type 0} (order : Item → Item → Ordering) where
         let not_right = first_not_before left right lefts rights up same in
         let not_left = first_not_before right left rights lefts up' (λ test. sym (same test)) in
         let head : left ≡ right =
-          exact left right (neither (order left right) not_left (ap is_lt (sym (total.antisymm right left)) ∙ not_right)) in
+        exact left right (neither (order left right) not_left (ap is_lt (sym (total.antisymm right left)) ∙ not_right)) in
         let rest : SameCounts lefts rights = λ test.
-          let heads : cond {A = ℕ} (test left) 1 0 ≡ cond {A = ℕ} (test right) 1 0 = ap (λ x. cond {A = ℕ} (test x) 1 0) head in
-          let all : cond {A = ℕ} (test left) 1 0 + count_by test lefts ≡ cond {A = ℕ} (test right) 1 0 + count_by test rights =
-            sym (count_more test left lefts) ∙ same test ∙ count_more test right rights in
-          omega arith in
+        let heads : cond {A = ℕ} (test left) 1 0 ≡ cond {A = ℕ} (test right) 1 0 = ap (λ x. cond {A = ℕ} (test x) 1 0) head in
+        let all : cond {A = ℕ} (test left) 1 0 + count_by test lefts ≡ cond {A = ℕ} (test right) 1 0 + count_by test rights =
+        sym (count_more test left lefts) ∙ same test ∙ count_more test right rights in
+        omega arith in
         ap (λ x. x ∷ lefts) head ∙ ap (λ xs. right ∷ xs) (same_sorted exact lefts rights (sorted_rest left lefts up) (sorted_rest right rights up') rest)
 
     pub sorted_once : (exact : (x y : Item) → order x y ≡ Equal → x ≡ y) (items sorted : List Item)
@@ -160,5 +160,5 @@ module _ {Item : Type 0} (order : Item → Item → Ordering) where
     sorted_once exact items sorted moved up =
         same_sorted exact sorted (sorted_by order items) up (sorted_by_sorted items)
         (λ test.
-          sum_by-IsPermutation (λ x. cond (test x) 1 0) items sorted moved
-          ∙ sym (sum_by-IsPermutation (λ x. cond (test x) 1 0) items (sorted_by order items) (sorted_by_permutes items)))
+        sum_by-IsPermutation (λ x. cond (test x) 1 0) items sorted moved
+        ∙ sym (sum_by-IsPermutation (λ x. cond (test x) 1 0) items (sorted_by order items) (sorted_by_permutes items)))

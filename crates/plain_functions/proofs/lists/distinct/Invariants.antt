@@ -10,5 +10,5 @@ use Rattle.plain_functions.proofs.lists.distinct.Given as goal
 abbrev pub invariant-loop-value : goal.invariant-loop-value
 invariant-loop-value l = record {
   kept : l.cell ≡ distinct_of value_same (take l.value-index l.values);
-  known : (sought : Value) → contains value_cmp l.seen sought ≡ list_any (λ earlier. value_same sought earlier) (take l.value-index l.values)
+  known : (sought : Value) → contains value_cmp l.seen sought ≡ list_any (λ earlier. value_same sought earlier) (take l.value-index l.values);
 }

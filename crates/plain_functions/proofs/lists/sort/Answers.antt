@@ -18,9 +18,9 @@ returns c =
     let total = directed_total c.args.descending in
     let sorted = c.sort_unstable_by.new.self.items in
     let moved : IsPermutation values sorted =
-      subst (λ (items : List Value). IsPermutation items sorted) c.in_ok-sorted.ensures c.sort_unstable_by.ensures.permutation in
+    subst (λ (items : List Value). IsPermutation items sorted) c.in_ok-sorted.ensures c.sort_unstable_by.ensures.permutation in
     let up : IsSorted order sorted =
-      c.sort_unstable_by.ensures.sorted (λ left right. is_lt (order left right)) (ranks_by total (λ value. value))
-      (always_returns_same _ _ _ (λ a r f' k. search rules)) in
+    c.sort_unstable_by.ensures.sorted (λ left right. is_lt (order left right)) (ranks_by total (λ value. value))
+    (always_returns_same _ _ _ (λ a r f' k. search rules)) in
     let same : sorted ≡ sorted_by order values = sorted_once order total (directed_exact c.args.descending) values sorted moved up in
     subst (λ (items : List Value). IfOk c.cell_of.result (λ cell. cell ≡ items)) same c.cell_of.ensures
