@@ -1,0 +1,5 @@
+pub mod ListsDistinct
+pub mod ListsLeast
+pub mod ListsSlice
+pub mod ListsSorted
+pub mod Truths

@@ -4,3 +4,6 @@
 //!
 //! Read its specs in this order: `Logic`, `Texts`, `Wildcards`, `Found`, `Conversions`, `Lists`.
 #![tactic(auto)]
+
+pub mod lists;
+pub mod logic;

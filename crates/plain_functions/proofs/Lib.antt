@@ -1,0 +1,2 @@
+pub mod SeenValues
+pub mod ValueLists

@@ -15,3 +15,8 @@ pub use numbers::{
     Sum, absolute_integer, absolute_long, arithmetic_integers, arithmetic_longs, holds,
     negate_integer, negate_long,
 };
+pub mod lists;
+pub mod logic;
+#[cfg(test)]
+mod tests_lists;
+mod value_key;
