@@ -1,0 +1,3 @@
+pub mod Rules
+pub mod Functions
+pub mod Values
