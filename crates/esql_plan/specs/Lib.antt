@@ -1,3 +1,5 @@
 pub mod Rules
 pub mod Functions
 pub mod Values
+pub mod Signatures
+pub mod Fits
