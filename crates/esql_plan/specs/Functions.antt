@@ -110,6 +110,15 @@ sum_rule numbers =
     let integers : Bool = are_integers numbers in
     sum_given integers (sum_within (bits_of integers) (map number_of numbers))
 
+-- Truths ---
+
+abbrev pub is_not_null : List Value → Bool
+is_not_null cell = not (is_null cell)
+
+-- IN, where NOT IN has the negation
+abbrev pub as_it_is : Option Bool → Option Bool
+as_it_is truth = truth
+
 -- Comparisons and patterns -------------------------------------------------------------------------------------------------------
 
 -- `== != < <= > >=`
@@ -233,8 +242,36 @@ alone rule list (value ∷ rest) = given_nothing
 abbrev pub count_rule : List Value → Given
 count_rule list = given_one (Int (pos (count_of list)))
 
-abbrev pub concat_list_rule : List Value → Value → Given
-concat_list_rule texts delimiter = given_text (joined (text_of delimiter) (map text_of texts))
+-- MV_CONCAT: the texts with a delimiter between each two
+abbrev pub concat_list_rule : List Value → List Value → Given
+concat_list_rule texts = of_one (λ delimiter. given_text (joined (text_of delimiter) (map text_of texts)))
+
+-- GREATEST, MV_MAX
+abbrev pub greatest_rule : List Value → Given
+greatest_rule values = given (greatest_of order_of values)
+
+-- LEAST, MV_MIN
+abbrev pub least_rule : List Value → Given
+least_rule values = given (least_of order_of values)
+
+abbrev pub first_rule : List Value → Given
+first_rule list = given (first_of list)
+
+abbrev pub last_rule : List Value → Given
+last_rule list = given (last_of list)
+
+abbrev pub dedupe_rule : List Value → Given
+dedupe_rule list = given (distinct_of is_same list)
+
+abbrev pub sort_rule : List Value → Given
+sort_rule list = given (sorted_by order_of list)
+
+-- in the order of values turned round
+abbrev pub sort_desc_rule : List Value → Given
+sort_desc_rule list = given (sorted_by (λ left right. order_of right left) list)
+
+abbrev pub append_rule : List (List Value) → Given
+append_rule = of_two (λ list other. given (list ++ other))
 
 -- MV_SLICE: to an end, which is the start where none is written
 abbrev pub slice_rule : List Value → List Value → Given
@@ -263,16 +300,16 @@ rule_of function.Ge = singles (of_two (comparison_rule comparison.GreaterEqual))
 rule_of function.And = logic (of_two_truths and_of)
 rule_of function.Or = logic (of_two_truths or_of)
 rule_of function.Not = logic (of_one_truth not_of)
-rule_of function.In = membership (λ truth. truth)
+rule_of function.In = membership as_it_is
 rule_of function.NotIn = membership not_of
 rule_of function.Like = singles (of_two like_rule)
 rule_of function.Rlike = singles (of_two rlike_rule)
 rule_of function.NotLike = singles (of_two not_like_rule)
 rule_of function.NotRlike = singles (of_two not_rlike_rule)
 rule_of function.IsNull = tests is_null
-rule_of function.IsNotNull = tests (λ cell. not (is_null cell))
-rule_of function.Greatest = singles (λ values. given (greatest_of order_of values))
-rule_of function.Least = singles (λ values. given (least_of order_of values))
+rule_of function.IsNotNull = tests is_not_null
+rule_of function.Greatest = singles greatest_rule
+rule_of function.Least = singles least_rule
 rule_of function.Case = conditions
 rule_of function.Coalesce = alternatives
 rule_of function.ToInteger = each integer_rule
@@ -293,13 +330,13 @@ rule_of function.Replace = singles (of_three replace_rule)
 rule_of function.Split = singles (of_two split_rule)
 rule_of function.MvCount = list_and_singles (alone count_rule)
 rule_of function.MvSum = list_and_singles (alone sum_rule)
-rule_of function.MvMin = list_and_singles (alone (λ list. given (least_of order_of list)))
-rule_of function.MvMax = list_and_singles (alone (λ list. given (greatest_of order_of list)))
-rule_of function.MvFirst = list_and_singles (alone (λ list. given (first_of list)))
-rule_of function.MvLast = list_and_singles (alone (λ list. given (last_of list)))
-rule_of function.MvDedupe = list_and_singles (alone (λ list. given (distinct_of is_same list)))
-rule_of function.MvSort = list_and_singles (alone (λ list. given (sorted_by order_of list)))
-rule_of function.MvSortDesc = list_and_singles (alone (λ list. given (sorted_by (λ left right. order_of right left) list)))
-rule_of function.MvConcat = list_and_singles (λ list. of_one (concat_list_rule list))
-rule_of function.MvAppend = lists (of_two (λ list other. given (list ++ other)))
+rule_of function.MvMin = list_and_singles (alone least_rule)
+rule_of function.MvMax = list_and_singles (alone greatest_rule)
+rule_of function.MvFirst = list_and_singles (alone first_rule)
+rule_of function.MvLast = list_and_singles (alone last_rule)
+rule_of function.MvDedupe = list_and_singles (alone dedupe_rule)
+rule_of function.MvSort = list_and_singles (alone sort_rule)
+rule_of function.MvSortDesc = list_and_singles (alone sort_desc_rule)
+rule_of function.MvConcat = list_and_singles concat_list_rule
+rule_of function.MvAppend = lists append_rule
 rule_of function.MvSlice = list_and_singles slice_rule

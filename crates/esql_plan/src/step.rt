@@ -5,17 +5,33 @@ use esql_types::{ColId, NodeId, Seq};
 #[derive(Drop)]
 pub enum Step {
     /// A new column, whose cell is the value of an expression.
-    Eval { to: ColId, expr: TypedExpr },
+    Eval {
+        to: ColId,
+        expr: TypedExpr,
+    },
     /// Keeps the rows whose condition is true.
-    Filter { node: NodeId, condition: TypedExpr },
+    Filter {
+        node: NodeId,
+        condition: TypedExpr,
+    },
     /// The rows in the order of keys, in their earlier order where the keys tie.
-    Sort { keys: Seq<PlanKey> },
+    Sort {
+        keys: Seq<PlanKey>,
+    },
     /// The first `count` rows in the order of keys.
-    TopN { keys: Seq<PlanKey>, count: u64 },
+    TopN {
+        keys: Seq<PlanKey>,
+        count: u64,
+    },
     /// The first `count` rows.
-    Limit { count: u64 },
+    Limit {
+        count: u64,
+    },
     /// A row for each value of a column, with that value in a new column; one row where there is none.
-    Expand { id: ColId, to: ColId },
+    Expand {
+        id: ColId,
+        to: ColId,
+    },
     /// A row for each group, with its aggregates and its groups as the only columns.
     Stats {
         aggregates: Seq<Aggregate>,
