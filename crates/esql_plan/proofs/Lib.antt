@@ -1,0 +1,4 @@
+pub mod TypedFolds
+pub mod Inductions
+pub mod Fitting
+pub mod Lawful

@@ -1,0 +1,8 @@
+pub mod Rules
+pub mod Functions
+pub mod Values
+pub mod Calls
+pub mod Exprs
+pub mod Signatures
+pub mod Names
+pub mod Fits
