@@ -2,11 +2,13 @@
 use Rattle.std.specs.Prelude.{ℕ, ℤ, pos, Bool, true, false, not, List, [], ◌∷◌, ◌++◌, map, Option, Some, None, Result, Ok, Err, if◌then◌else◌}
 use Rattle.std.specs.List.{flat_map, list_all}
 use Rattle.std.specs.Fmt.{signed_decimal}
+use Rattle.std.specs.Ordering.{is_eq}
 use Rattle.std.specs.Str.{trim, trim_start, trim_end}
 use Rattle.esql_types.specs.declared.value.Value.{Value}
 use Rattle.esql_types.specs.declared.value.Value.TheVariants.{Int, Long, Bool as Boolean, Text as Keyword}
 use Rattle.esql_types.specs.declared.cause.Cause.{Cause}
 use Rattle.esql_types.specs.declared.cause.Cause.TheVariants as cause
+use Rattle.esql_types.specs.Values.{value_cmp}
 use Rattle.number_rules.specs.declared.Arithmetic.{Arithmetic}
 use Rattle.number_rules.specs.declared.Arithmetic.TheVariants as op
 use Rattle.number_rules.specs.declared.Comparison.{Comparison}
@@ -26,7 +28,7 @@ use Rattle.function_rules.specs.Texts.{length_of, substring_from, substring_of, 
 use Rattle.function_rules.specs.Wildcards.{is_like}
 use Rattle.esql_plan.specs.declared.function.Function.{Function}
 use Rattle.esql_plan.specs.declared.function.Function.TheVariants as function
-use Rattle.esql_plan.specs.Rules.{Rule, singles, each, list_and_singles, lists, tests, logic, membership, conditions, alternatives, Given, given, given_one, given_nothing, failed, number_of, text_of, truth_of, is_integer, order_of, is_same, is_null}
+use Rattle.esql_plan.specs.Rules.{Rule, singles, each, list_and_singles, lists, tests, logic, membership, conditions, alternatives, Given, given, given_one, given_nothing, failed, number_of, text_of, truth_of, is_integer, order_of, is_null}
 
 -- Rules of so many arguments. No call that fits has another number of them, and of one that has nothing is given.
 
@@ -248,11 +250,11 @@ concat_list_rule texts = of_one (λ delimiter. given_text (joined (text_of delim
 
 -- GREATEST, MV_MAX
 abbrev pub greatest_rule : List Value → Given
-greatest_rule values = given (greatest_of order_of values)
+greatest_rule values = given (greatest_of value_cmp values)
 
 -- LEAST, MV_MIN
 abbrev pub least_rule : List Value → Given
-least_rule values = given (least_of order_of values)
+least_rule values = given (least_of value_cmp values)
 
 abbrev pub first_rule : List Value → Given
 first_rule list = given (first_of list)
@@ -261,14 +263,14 @@ abbrev pub last_rule : List Value → Given
 last_rule list = given (last_of list)
 
 abbrev pub dedupe_rule : List Value → Given
-dedupe_rule list = given (distinct_of is_same list)
+dedupe_rule list = given (distinct_of (λ left right. is_eq (value_cmp left right)) list)
 
 abbrev pub sort_rule : List Value → Given
-sort_rule list = given (sorted_by order_of list)
+sort_rule list = given (sorted_by value_cmp list)
 
 -- in the order of values turned round
 abbrev pub sort_desc_rule : List Value → Given
-sort_desc_rule list = given (sorted_by (λ left right. order_of right left) list)
+sort_desc_rule list = given (sorted_by (λ left right. value_cmp right left) list)
 
 abbrev pub append_rule : List (List Value) → Given
 append_rule = of_two (λ list other. given (list ++ other))

@@ -1,7 +1,6 @@
 pub mod Rules
 pub mod Functions
 pub mod Values
-pub mod Calls
 pub mod Exprs
 pub mod Signatures
 pub mod Names

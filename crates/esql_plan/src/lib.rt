@@ -1,10 +1,9 @@
 //! Plans: a source, steps over numbered columns with typed expressions, and the columns that are left; the table of the
 //! functions of the language; and what a function gives of its arguments, a typed expression of a row.
 //!
-//! Read its specs in this order: `Rules`, `Functions`, `Values`, `Calls`, `Exprs`, `Signatures`, `Names`, `Fits`.
+//! Read its specs in this order: `Rules`, `Functions`, `Values`, `Exprs`, `Signatures`, `Names`, `Fits`.
 #![tactic(auto)]
 
-mod call;
 mod catalog;
 mod facts;
 mod function;
@@ -14,9 +13,6 @@ mod plan;
 mod step;
 mod typed;
 
-pub use call::{
-    Branching, Call, Connective, Conversion, ListFunction, SingleFunction, TextFunction,
-};
 pub use catalog::{Catalog, PolicyShape, TableShape};
 pub use facts::{Facts, NamedFacts, Statistics, TableStats};
 pub use function::{AggFunction, Function};

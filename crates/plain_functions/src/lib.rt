@@ -3,9 +3,14 @@
 #![tactic(auto)]
 
 mod conversions;
+pub mod lists;
+pub mod logic;
 mod numbers;
 #[cfg(test)]
+mod tests_lists;
+#[cfg(test)]
 mod tests_numbers;
+mod value_key;
 
 pub use conversions::{
     integer_of_long, integer_of_text, integer_of_truth, long_of_text, text_of_number,
@@ -15,8 +20,3 @@ pub use numbers::{
     Sum, absolute_integer, absolute_long, arithmetic_integers, arithmetic_longs, holds,
     negate_integer, negate_long,
 };
-pub mod lists;
-pub mod logic;
-#[cfg(test)]
-mod tests_lists;
-mod value_key;
