@@ -17,6 +17,10 @@ pub use numbers::{
 };
 pub mod lists;
 pub mod logic;
+pub mod pieces;
 #[cfg(test)]
 mod tests_lists;
+#[cfg(test)]
+mod tests_texts;
+pub mod texts;
 mod value_key;
