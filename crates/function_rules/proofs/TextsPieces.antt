@@ -92,9 +92,10 @@ lacks_later delimiter byte bytes many missing lacks (suc i) within = lacks i (om
 longer : (delimiter : List ℕ) (byte : ℕ) (bytes : List ℕ) (pieces : List (List ℕ)) → stands delimiter (byte ∷ bytes) ≡ false →
     ArePieces delimiter bytes pieces → ArePieces delimiter (byte ∷ bytes) (with_first byte pieces)
 longer delimiter byte bytes [] missing cut = absurd cut
-longer delimiter byte bytes (last ∷ []) missing cut =
-    (ap (λ tail. byte ∷ tail) cut.0,
-    λ i within. lacks_later delimiter byte bytes (suc (length bytes)) missing (λ j below. cut.1 j (omega arith)) i (omega arith))
+longer delimiter byte bytes (last ∷ []) missing cut = (
+  ap (λ tail. byte ∷ tail) cut.0,
+  λ i within. lacks_later delimiter byte bytes (suc (length bytes)) missing (λ j below. cut.1 j (omega arith)) i (omega arith),
+)
 longer delimiter byte bytes (front ∷ next ∷ rest) missing (back, cut, more) =
     (back, (ap (λ tail. byte ∷ tail) cut.0, λ i below. lacks_later delimiter byte bytes (length front) missing cut.1 i (omega arith)), more)
 

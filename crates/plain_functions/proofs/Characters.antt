@@ -17,7 +17,7 @@ last_character text before last utf8 utf8_before split =
     let left : encode_utf8_all (chars text) ≡ before ++ encode last = encodes-chars text utf8 ∙ split in
     let one : encode_utf8_all (last ∷ []) ≡ encode last = append-nil (encode last) in
     let right : encode_utf8_all (chars before ++ last ∷ []) ≡ before ++ encode last =
-        encodes-append (chars before) (last ∷ []) ∙ ap (λ front. front ++ encode_utf8_all (last ∷ [])) (encodes-chars before utf8_before) ∙ ap (λ back. before ++ back) one in
+    encodes-append (chars before) (last ∷ []) ∙ ap (λ front. front ++ encode_utf8_all (last ∷ [])) (encodes-chars before utf8_before) ∙ ap (λ back. before ++ back) one in
     encodes_same (chars text) (chars before ++ last ∷ []) (left ∙ sym right)
 
 -- steps of a walk over characters

@@ -32,17 +32,17 @@ one_start : (character : ℕ) → sum_by start (encode character) ≡ 1
 unfolding encode
 one_start character = cases (ltb character 128) (ltb character 2048) (ltb character 65536) refl where
   cases : (one two three : Bool) → ltb character 128 ≡ one →
-    sum_by start (cond one (character ∷ []) (cond two ((192 + character / 64) ∷ (128 + character % 64) ∷ [])
-    (cond three ((224 + character / 4096) ∷ (128 + (character / 64) % 64) ∷ (128 + character % 64) ∷ [])
-    ((240 + character / 262144) ∷ (128 + (character / 4096) % 64) ∷ (128 + (character / 64) % 64) ∷ (128 + character % 64) ∷ [])))) ≡ 1
+      sum_by start (cond one (character ∷ []) (cond two ((192 + character / 64) ∷ (128 + character % 64) ∷ [])
+      (cond three ((224 + character / 4096) ∷ (128 + (character / 64) % 64) ∷ (128 + character % 64) ∷ [])
+      ((240 + character / 262144) ∷ (128 + (character / 4096) % 64) ∷ (128 + (character / 64) % 64) ∷ (128 + character % 64) ∷ [])))) ≡ 1
   cases true two three e = leading character [] (alone character (ltb-true character 128 e)) refl
   cases false true three e = leading (192 + character / 64) ((128 + character % 64) ∷ []) (leads (192 + character / 64) (omega arith)) (following character [] refl)
   cases false false true e =
-    leading (224 + character / 4096) ((128 + (character / 64) % 64) ∷ (128 + character % 64) ∷ []) (leads (224 + character / 4096) (omega arith))
-    (following (character / 64) ((128 + character % 64) ∷ []) (following character [] refl))
+      leading (224 + character / 4096) ((128 + (character / 64) % 64) ∷ (128 + character % 64) ∷ []) (leads (224 + character / 4096) (omega arith))
+      (following (character / 64) ((128 + character % 64) ∷ []) (following character [] refl))
   cases false false false e =
-    leading (240 + character / 262144) ((128 + (character / 4096) % 64) ∷ (128 + (character / 64) % 64) ∷ (128 + character % 64) ∷ []) (leads (240 + character / 262144) (omega arith))
-    (following (character / 4096) ((128 + (character / 64) % 64) ∷ (128 + character % 64) ∷ []) (following (character / 64) ((128 + character % 64) ∷ []) (following character [] refl)))
+      leading (240 + character / 262144) ((128 + (character / 4096) % 64) ∷ (128 + (character / 64) % 64) ∷ (128 + character % 64) ∷ []) (leads (240 + character / 262144) (omega arith))
+      (following (character / 4096) ((128 + (character / 64) % 64) ∷ (128 + character % 64) ∷ []) (following (character / 64) ((128 + character % 64) ∷ []) (following character [] refl)))
 
 many_starts : (characters : List ℕ) → sum_by start (encode_utf8_all characters) ≡ length characters
 many_starts [] = refl

@@ -42,5 +42,5 @@ finished rest delimiter before after all lacks held pushed =
 pub shorter : (delimiter text front back : List ℕ) → 0 < length delimiter → IsCut delimiter text front back → length back < length text
 shorter delimiter text front back some cut =
     let whole : length text ≡ length front + (length delimiter + length back) =
-        ap length cut.0 ∙ length-append front (delimiter ++ back) ∙ ap (λ n. length front + n) (length-append delimiter back) in
+    ap length cut.0 ∙ length-append front (delimiter ++ back) ∙ ap (λ n. length front + n) (length-append delimiter back) in
     omega arith

@@ -15,6 +15,7 @@ pub use numbers::{
     Sum, absolute_integer, absolute_long, arithmetic_integers, arithmetic_longs, holds,
     negate_integer, negate_long,
 };
+
 pub mod lists;
 pub mod logic;
 pub mod pieces;

@@ -1,6 +1,7 @@
 use crate::pieces::{TextBuilder, concat, join, split};
 use crate::texts::{
-    ends_with, left, length, right, starts_with, substring, substring_from, trim, trim_end, trim_start,
+    ends_with, left, length, right, starts_with, substring, substring_from, trim, trim_end,
+    trim_start,
 };
 use esql_types::{Cell, Text, Value};
 use std::test::Fail;

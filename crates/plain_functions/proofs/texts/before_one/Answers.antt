@@ -10,7 +10,7 @@ returns-in-Some c =
     let last = c.in-Some.field-0 in
     let before = c.as_str.result.now in
     let split : c.args.text.now ≡ before ++ encode last =
-        sym c.chars-characters.ensures.rest ∙ c.in-Some.ensures.steps ∙ ap (λ rest. rest ++ encode last) (sym c.as_str.ensures) in
+    sym c.chars-characters.ensures.rest ∙ c.in-Some.ensures.steps ∙ ap (λ rest. rest ++ encode last) (sym c.as_str.ensures) in
     (last, last_character c.args.text.now before last c.utf8.text c.as_str.utf8 split)
 
 pub returns-in-None : goal.returns-in-None

@@ -10,7 +10,7 @@ returns-in-Some c =
     let first = c.in-Some.field-0 in
     let behind = c.as_str.result.now in
     let split : c.args.text.now ≡ encode first ++ behind =
-        sym c.chars-characters.ensures.rest ∙ c.in-Some.ensures.steps.0 ∙ ap (λ rest. encode first ++ rest) (sym c.as_str.ensures) in
+    sym c.chars-characters.ensures.rest ∙ c.in-Some.ensures.steps.0 ∙ ap (λ rest. encode first ++ rest) (sym c.as_str.ensures) in
     (first, chars_past_char c.args.text.now behind first c.utf8.text split)
 
 pub returns-in-None : goal.returns-in-None

@@ -8,5 +8,5 @@ pub returns-in-Ok : goal.returns-in-Ok
 returns-in-Ok c =
     let counted : c.args.count ≡ pos c.in-Ok.number = search rules in
     let from : c.substring_from.result.now ≡ substring_from c.args.text.now c.args.start =
-        c.substring_from.ensures ∙ ap (substring_from c.args.text.now) (to_z-of_z w64 c.args.start c.ranges.start) in
+    c.substring_from.ensures ∙ ap (substring_from c.args.text.now) (to_z-of_z w64 c.args.start c.ranges.start) in
     so_many_from c.args.text.now c.substring_from.result.now c.first.result.now c.args.start c.args.count c.in-Ok.number counted c.substring_from.utf8 from c.first.ensures
