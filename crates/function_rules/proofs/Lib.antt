@@ -2,4 +2,6 @@ pub mod ListsDistinct
 pub mod ListsLeast
 pub mod ListsSlice
 pub mod ListsSorted
+pub mod TextsParts
+pub mod TextsPieces
 pub mod Truths

@@ -1,4 +1,5 @@
 pub mod Conversions
+pub mod Cuts
 pub mod Found
 pub mod Lists
 pub mod Logic

@@ -2,8 +2,9 @@
 //! definitions name no cell of a table, so that the evaluation of a row, kernels over columns and the folding of
 //! constants cite the same ones.
 //!
-//! Read its specs in this order: `Logic`, `Texts`, `Wildcards`, `Found`, `Conversions`, `Lists`.
+//! Read its specs in this order: `Logic`, `Texts`, `Cuts`, `Wildcards`, `Found`, `Conversions`, `Lists`.
 #![tactic(auto)]
 
 pub mod lists;
 pub mod logic;
+pub mod texts;

@@ -1,2 +1,5 @@
+pub mod Characters
+pub mod Counts
+pub mod Joins
 pub mod SeenValues
 pub mod ValueLists

@@ -1,2 +1,4 @@
+pub mod Bytes
+pub mod Keywords
 pub mod ValueOrder
 pub mod Values

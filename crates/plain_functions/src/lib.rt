@@ -20,3 +20,13 @@ pub use numbers::{
     Sum, absolute_integer, absolute_long, arithmetic_integers, arithmetic_longs, holds,
     negate_integer, negate_long,
 };
+
+pub mod lists;
+pub mod logic;
+pub mod pieces;
+#[cfg(test)]
+mod tests_lists;
+#[cfg(test)]
+mod tests_texts;
+pub mod texts;
+mod value_key;
