@@ -20,18 +20,18 @@ fn match_front<'p, 't>(mut pattern: &'p str, mut text: &'t str) -> Front<'p, 't>
     ensures { FrontIs (wildcards pattern.now) (chars text.now) result }
 {
     while let Some((part, behind)) = cut_part(pattern) {
-        let rest = match part {
+        match part {
             Part::AnyRun => return Front::Run { pattern: behind, text },
-            Part::AnyOne => cut_char(text),
-            Part::Itself(own) => cut_char(text).filter(|cut| cut.0 == own),
-        };
-        match rest {
-            Some((_, rest)) => {
-                pattern = behind;
-                text = rest;
-            }
-            None => return Front::Differs,
+            Part::AnyOne => match cut_char(text) {
+                Some((_, rest)) => text = rest,
+                None => return Front::Differs,
+            },
+            Part::Itself(own) => match cut_char(text) {
+                Some((character, rest)) if character == own => text = rest,
+                _ => return Front::Differs,
+            },
         }
+        pattern = behind;
     }
     if text.is_empty() {
         Front::Whole
