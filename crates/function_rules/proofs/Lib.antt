@@ -1,2 +1,4 @@
+pub mod Cuts
+pub mod Plain
 pub mod Readings
 pub mod Tails

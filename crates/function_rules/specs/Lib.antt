@@ -1,5 +1,6 @@
 pub mod Conversions
 pub mod Found
+pub mod Laws
 pub mod Lists
 pub mod Logic
 pub mod Texts

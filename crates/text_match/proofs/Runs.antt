@@ -2,14 +2,12 @@
 -- place is left behind the first one too.
 use Rattle.std.proofs.Common.{◌≡◌, ℕ, ◌+◌, ◌==◌, ◌&&◌, Bool, true, false, List, [], ◌∷◌, ◌++◌, length, drop, refl, sym, ap, ◌∙◌, arith}
 use Rattle.std.proofs.lemmas.List.{drop-drop, drop_at}
+use Rattle.std.proofs.lemmas.Bool.{and_parts}
+use Rattle.std.proofs.lemmas.Bool.Decides.{same_from_decides}
 use Rattle.std.specs.List.{list_any}
 use Rattle.function_rules.specs.Wildcards.{Wildcard, any_run, any_one, itself, stands_for, tails}
-use Rattle.function_rules.proofs.Tails.{same_truth, some_tail, tail_that}
+use Rattle.function_rules.proofs.Tails.{some_tail, tail_that}
 use Rattle.text_match.specs.Fronts.{have_no_run}
-
-both_hold : (left right : Bool) → (left && right) ≡ true → (left ≡ true) × (right ≡ true)
-both_hold true right h = (refl, h)
-both_hold false right h = absurd cc
 
 pub behind_fixed : (fixed parts : List Wildcard) (taken left : List ℕ) → have_no_run fixed ≡ true → stands_for fixed taken ≡ true →
     stands_for (fixed ++ parts) (taken ++ left) ≡ stands_for parts left
@@ -20,7 +18,7 @@ behind_fixed (any_one ∷ fixed) parts [] left no_run stands = absurd cc
 behind_fixed (any_one ∷ fixed) parts (character ∷ taken) left no_run stands = behind_fixed fixed parts taken left no_run stands
 behind_fixed (itself own ∷ fixed) parts [] left no_run stands = absurd cc
 behind_fixed (itself own ∷ fixed) parts (character ∷ taken) left no_run stands =
-    let both = both_hold (own == character) (stands_for fixed taken) stands in
+    let both = and_parts (own == character) (stands_for fixed taken) stands in
     rw both.0 (behind_fixed fixed parts taken left no_run both.1)
 
 -- each of them stands for one character
@@ -32,7 +30,7 @@ as_many (any_one ∷ fixed) [] no_run stands = absurd cc
 as_many (any_one ∷ fixed) (character ∷ taken) no_run stands = omega (arith, as_many fixed taken no_run stands)
 as_many (itself own ∷ fixed) [] no_run stands = absurd cc
 as_many (itself own ∷ fixed) (character ∷ taken) no_run stands =
-    omega (arith, as_many fixed taken no_run (both_hold (own == character) (stands_for fixed taken) stands).1)
+    omega (arith, as_many fixed taken no_run (and_parts (own == character) (stands_for fixed taken) stands).1)
 
 passed : (fixed parts : List Wildcard) (characters : List ℕ) → have_no_run fixed ≡ true → stands_for (fixed ++ parts) characters ≡ true →
     stands_for parts (drop (length fixed) characters) ≡ true
@@ -42,7 +40,7 @@ passed (any_one ∷ fixed) parts [] no_run stands = absurd cc
 passed (any_one ∷ fixed) parts (character ∷ characters) no_run stands = passed fixed parts characters no_run stands
 passed (itself own ∷ fixed) parts [] no_run stands = absurd cc
 passed (itself own ∷ fixed) parts (character ∷ characters) no_run stands =
-    passed fixed parts characters no_run (both_hold (own == character) (stands_for (fixed ++ parts) characters) stands).1
+    passed fixed parts characters no_run (and_parts (own == character) (stands_for (fixed ++ parts) characters) stands).1
 
 module _ (fixed parts : List Wildcard) (taken left : List ℕ) (no_run : have_no_run fixed ≡ true) (stands : stands_for fixed taken ≡ true) where
   left_behind : (place more : ℕ) → drop more (drop (length fixed) (drop place (taken ++ left))) ≡ drop (place + more) left
@@ -64,4 +62,4 @@ module _ (fixed parts : List Wildcard) (taken left : List ℕ) (no_run : have_no
   back h = some_tail (stands_for (fixed ++ any_run ∷ parts)) 0 (taken ++ left) (behind_fixed fixed (any_run ∷ parts) taken left no_run stands ∙ h)
 
   pub first_suffices : list_any (stands_for (fixed ++ any_run ∷ parts)) (tails (taken ++ left)) ≡ list_any (stands_for parts) (tails left)
-  first_suffices = same_truth _ _ forth back
+  first_suffices = same_from_decides {P = list_any (stands_for parts) (tails left) ≡ true} _ _ (forth, back) (λ h. h, λ h. h)

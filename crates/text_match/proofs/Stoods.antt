@@ -1,10 +1,12 @@
 -- One more character for which the next part stands, and what is known at a run and at the end.
-use Rattle.std.proofs.Common.{◌≡◌, ℕ, ◌==◌, ◌&&◌, ◌<◌, ◌≤◌, ◌+◌, ◌||◌, Bool, true, false, List, [], ◌∷◌, ◌++◌, length, refl, sym, ap, ap₂, ◌∙◌, arith}
-use Rattle.std.specs.List.{list_any}
-use Rattle.std.proofs.lemmas.List.{append_assoc, length-append}
-use Rattle.function_rules.specs.Wildcards.{Wildcard, any_run, any_one, itself, stands_for, tails}
-use Rattle.function_rules.proofs.Tails.{some_tail}
-use Rattle.text_match.specs.Fronts.{have_no_run, Stood}
+use Rattle.std.proofs.Common.{◌≡◌, ◌≢◌, ℕ, ◌==◌, ◌&&◌, ◌<◌, ◌≤◌, ◌+◌, ◌||◌, Bool, true, false, List, [], ◌∷◌, ◌++◌, length, refl, sym, ap, ap₂, ◌∙◌, arith}
+use Rattle.std.proofs.lemmas.Bool.{and_left, ne_eqb}
+use Rattle.std.specs.Str.{chars, encode_utf8_all, IsUtf8}
+use Rattle.std.proofs.lemmas.Str.{chars-nil, encodes-chars}
+use Rattle.std.proofs.lemmas.List.{append_assoc, length-append, nil_from_length}
+use Rattle.function_rules.specs.Wildcards.{Wildcard, any_run, any_one, itself, stands_for}
+use Rattle.function_rules.proofs.Tails.{nothing_left}
+use Rattle.text_match.specs.Fronts.{stand_for_end, NoEnd, SameEnds, have_no_run, Stood}
 use Rattle.text_match.proofs.Runs.{behind_fixed, first_suffices}
 
 no_run_then : (fixed : List Wildcard) (part : Wildcard) → have_no_run fixed ≡ true → have_no_run (part ∷ []) ≡ true →
@@ -50,9 +52,9 @@ module _ (parts : List Wildcard) (characters : List ℕ) where
       ap₂ stands_for stood.parts_are stood.characters_are ∙ behind_fixed stood.fixed ps stood.taken cs stood.no_run stood.stands
 
   pub stood_some : (ps : List Wildcard) (cs : List ℕ) → Stood parts characters (any_run ∷ ps) cs →
-      list_any (stands_for parts) (tails characters) ≡ list_any (stands_for ps) (tails cs)
+      stand_for_end parts characters ≡ stand_for_end ps cs
   stood_some ps cs stood =
-      ap₂ (λ all text. list_any (stands_for all) (tails text)) stood.parts_are stood.characters_are
+      ap₂ stand_for_end stood.parts_are stood.characters_are
       ∙ first_suffices stood.fixed ps stood.taken cs stood.no_run stood.stands
 
   pub stood_shorter : (ps : List Wildcard) (cs : List ℕ) → Stood parts characters (any_run ∷ ps) cs →
@@ -61,3 +63,44 @@ module _ (parts : List Wildcard) (characters : List ℕ) where
       let parts_length = ap length stood.parts_are ∙ length-append stood.fixed (any_run ∷ ps) in
       let characters_length = ap length stood.characters_are ∙ length-append stood.taken cs in
       omega (arith, parts_length, characters_length)
+
+-- behind a run, an empty pattern
+pub none_behind : (parts : List Wildcard) (characters : List ℕ) → parts ≡ [] → stand_for_end parts characters ≡ true
+none_behind parts characters none = ap (λ all. stand_for_end all characters) none ∙ nothing_left characters
+
+-- the search for a character
+pub passes_other : (own character : ℕ) (characters rest : List ℕ) → characters ≡ character ∷ rest → character ≢ own →
+    SameEnds (itself own) characters rest
+passes_other own character characters rest e other parts =
+    ap (stand_for_end (itself own ∷ parts)) e
+    ∙ ap (λ first. (first && stands_for parts rest) || stand_for_end (itself own ∷ parts) rest) (ne_eqb own character (λ same. other (sym same)))
+
+pub none_found : (own : ℕ) (characters others : List ℕ) → SameEnds (itself own) characters others → others ≡ [] → NoEnd (itself own) characters
+none_found own characters others same none parts = same parts ∙ ap (stand_for_end (itself own ∷ parts)) none
+
+no_characters : (text : List ℕ) → IsUtf8 text → chars text ≡ [] → text ≡ []
+no_characters text utf8 none = sym (encodes-chars text utf8) ∙ ap encode_utf8_all none
+
+not_empty : (text : List ℕ) → IsUtf8 text → length text ≢ 0 → (characters : List ℕ) → characters ≡ chars text → stands_for [] characters ≡ false
+not_empty text utf8 some [] same = absurd (some (ap length (no_characters text utf8 (sym same))))
+not_empty text utf8 some (character ∷ characters) same = refl
+
+-- no part is left
+pub at_end : (parts : List Wildcard) (text : List ℕ) → parts ≡ [] → length text ≡ 0 → stands_for parts (chars text) ≡ true
+at_end parts text none empty = ap₂ stands_for none (ap chars (nil_from_length text empty) ∙ chars-nil)
+
+pub before_end : (parts : List Wildcard) (text : List ℕ) → IsUtf8 text → parts ≡ [] → length text ≢ 0 → stands_for parts (chars text) ≡ false
+before_end parts text utf8 none some = ap (λ all. stands_for all (chars text)) none ∙ not_empty text utf8 some (chars text) refl
+
+-- the next part does not stand for the next character
+pub any_differs : (parts rest : List Wildcard) (characters : List ℕ) → parts ≡ any_one ∷ rest → characters ≡ [] → stands_for parts characters ≡ false
+any_differs parts rest characters e none = ap₂ stands_for e none
+
+pub none_differs : (parts rest : List Wildcard) (characters : List ℕ) (own : ℕ) → parts ≡ itself own ∷ rest → characters ≡ [] →
+    stands_for parts characters ≡ false
+none_differs parts rest characters own e none = ap₂ stands_for e none
+
+pub other_differs : (parts rest : List Wildcard) (characters left : List ℕ) (own character : ℕ) → parts ≡ itself own ∷ rest →
+    characters ≡ character ∷ left → character ≢ own → stands_for parts characters ≡ false
+other_differs parts rest characters left own character e f other =
+    ap₂ stands_for e f ∙ and_left (own == character) _ (ne_eqb own character (λ same. other (sym same)))

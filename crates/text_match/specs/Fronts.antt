@@ -1,7 +1,8 @@
 -- The parts of a LIKE pattern before its first run.
-use Rattle.std.specs.Prelude.{◌≡◌, ℕ, ◌≤◌, ◌<◌, Bool, true, false, List, [], ◌∷◌, ◌++◌, length}
+use Rattle.std.specs.Prelude.{◌≡◌, ℕ, Bool, true, false, List, [], ◌∷◌, ◌++◌}
+use Rattle.std.specs.List.{list_any}
 use Rattle.std.specs.Str.{chars}
-use Rattle.function_rules.specs.Wildcards.{Wildcard, any_run, any_one, itself, wildcards, stands_for}
+use Rattle.function_rules.specs.Wildcards.{Wildcard, any_run, any_one, itself, wildcards, stands_for, tails}
 use Rattle.text_match.specs.declared.parts.Part.{Part}
 use Rattle.text_match.specs.declared.parts.Part.TheVariants.{AnyRun, AnyOne, Itself}
 use Rattle.text_match.specs.declared.wildcards.Front.{Front}
@@ -12,6 +13,18 @@ abbrev pub wildcard_in : Part → Wildcard
 wildcard_in AnyRun = any_run
 wildcard_in AnyOne = any_one
 wildcard_in (Itself own) = itself own
+
+-- the parts stand for some end of the characters
+abbrev pub stand_for_end : List Wildcard → List ℕ → Bool
+stand_for_end parts characters = list_any (stands_for parts) (tails characters)
+
+-- no pattern that begins with the part stands for an end of the characters
+abbrev pub NoEnd : Wildcard → List ℕ → Type 0
+NoEnd part characters = (parts : List Wildcard) → stand_for_end (part ∷ parts) characters ≡ false
+
+-- a pattern that begins with the part stands for an end of the characters exactly where it does for one of the others
+abbrev pub SameEnds : Wildcard → List ℕ → List ℕ → Type 0
+SameEnds part characters others = (parts : List Wildcard) → stand_for_end (part ∷ parts) characters ≡ stand_for_end (part ∷ parts) others
 
 -- none of the parts is a run
 abbrev pub have_no_run : List Wildcard → Bool

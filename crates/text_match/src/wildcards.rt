@@ -1,8 +1,7 @@
-ghost use Rattle.std.specs.Prelude.{◌≡◌};
-ghost use Rattle.std.specs.List.{list_any};
+ghost use Rattle.std.specs.Prelude.{◌≡◌, ◌≤◌, length, IfSome, MatchOption};
 ghost use Rattle.std.specs.Str.{chars};
-ghost use Rattle.function_rules.specs.Wildcards.{wildcards, stands_for, tails, is_like};
-ghost use Rattle.text_match.specs.Fronts.{FrontIs};
+ghost use Rattle.function_rules.specs.Wildcards.{itself, wildcards, is_like};
+ghost use Rattle.text_match.specs.Fronts.{wildcard_in, stand_for_end, NoEnd, SameEnds, FrontIs};
 
 use crate::parts::{Part, cut_char, cut_part};
 
@@ -40,15 +39,43 @@ fn match_front<'p, 't>(mut pattern: &'p str, mut text: &'t str) -> Front<'p, 't>
     }
 }
 
-// Whether the pattern stands for the text from some place on. What is found first for the parts before a run leaves the most
-// text for those behind it, so no earlier run is tried again.
-fn some_end_is_like(mut pattern: &str, mut text: &str) -> bool
-    ensures { result ≡ list_any (stands_for (wildcards pattern.now)) (tails (chars text.now)) }
+// The text from the first place of the character on.
+fn from_first(own: char, mut text: &str) -> Option<&str>
+    ensures place { MatchOption result (NoEnd (itself own) (chars text.now)) (λ rest. SameEnds (itself own) (chars text.now) (chars rest.now)) }
+    ensures shorter { IfSome result (λ rest. length (chars rest.now) ≤ length (chars text.now)) }
 {
-    while !pattern.is_empty() {
-        match match_front(pattern, text) {
+    while let Some((character, behind)) = cut_char(text) {
+        if character == own {
+            return Some(text);
+        }
+        text = behind;
+    }
+    None
+}
+
+// The text from the first place on where a pattern that begins with the part may stand for it.
+fn first_place(part: Part, text: &str) -> Option<&str>
+    ensures place { MatchOption result (NoEnd (wildcard_in part) (chars text.now)) (λ rest. SameEnds (wildcard_in part) (chars text.now) (chars rest.now)) }
+    ensures shorter { IfSome result (λ rest. length (chars rest.now) ≤ length (chars text.now)) }
+{
+    match part {
+        Part::Itself(own) => from_first(own, text),
+        Part::AnyRun | Part::AnyOne => Some(text),
+    }
+}
+
+// Whether the pattern stands for some end of the text. Where the parts before a run are first found they leave the most text
+// for those behind it, so no earlier run is tried again.
+fn end_is_like(mut pattern: &str, mut text: &str) -> bool
+    ensures { result ≡ stand_for_end (wildcards pattern.now) (chars text.now) }
+{
+    while let Some((part, _)) = cut_part(pattern) {
+        let Some(place) = first_place(part, text) else {
+            return false;
+        };
+        match match_front(pattern, place) {
             Front::Whole => return true,
-            Front::Differs => match cut_char(text) {
+            Front::Differs => match cut_char(place) {
                 Some((_, rest)) => text = rest,
                 None => return false,
             },
@@ -71,6 +98,6 @@ pub fn like(pattern: &str, text: &str) -> bool
     match match_front(pattern, text) {
         Front::Whole => true,
         Front::Differs => false,
-        Front::Run { pattern, text } => some_end_is_like(pattern, text),
+        Front::Run { pattern, text } => end_is_like(pattern, text),
     }
 }
