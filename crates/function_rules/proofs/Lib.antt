@@ -1,7 +1,11 @@
+pub mod Cuts
 pub mod ListsDistinct
 pub mod ListsLeast
 pub mod ListsSlice
 pub mod ListsSorted
+pub mod Plain
+pub mod Readings
+pub mod Tails
 pub mod TextsParts
 pub mod TextsPieces
 pub mod Truths

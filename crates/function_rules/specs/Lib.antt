@@ -1,6 +1,7 @@
 pub mod Conversions
 pub mod Cuts
 pub mod Found
+pub mod Laws
 pub mod Lists
 pub mod Logic
 pub mod Texts

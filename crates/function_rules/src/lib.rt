@@ -8,3 +8,9 @@
 pub mod lists;
 pub mod logic;
 pub mod texts;
+//! Read its specs in this order: `Logic`, `Texts`, `Wildcards`, `Found`, `Conversions`, `Lists`, `Laws`.
+#![tactic(auto)]
+
+mod laws;
+
+pub use laws::{plain_pattern_is_itself, run_alone_is_any, run_between_cuts};
