@@ -36,7 +36,7 @@ pub fits_call : (whole free : List (List ℕ)) (expr : TypedExpr) (function : Fu
     → ExprFits whole free expr → CallFits whole free expr function args pattern
 fits_call whole free expr function args pattern is fits =
     let both = and_parts (list_all (λ (part : Part). part.fits) (map (part_of whole free) args)) (call_fits whole free function (map (part_of whole free) args) pattern expr.kind)
-            (sym (ap (λ (part : Part). part.fits) (part_of_call whole free expr function args pattern is)) ∙ fits) in
+    (sym (ap (λ (part : Part). part.fits) (part_of_call whole free expr function args pattern is)) ∙ fits) in
     record { parts = parts_fit whole free args both.0; call = both.1 }
 
 text_value : (value : Value) (text : List ℕ) → text_in value ≡ Some text → value ≡ Keyword text

@@ -2,3 +2,4 @@ pub mod TypedFolds
 pub mod Inductions
 pub mod Fitting
 pub mod Lawful
+pub mod Entries

@@ -1,6 +1,6 @@
 //! The names of functions, of aggregates, and of kinds behind `::`.
 
-ghost use Rattle.std.specs.Prelude.{◌≡◌};
+ghost use Rattle.std.specs.Prelude.{◌≡◌, ◌++◌};
 ghost use Rattle.esql_plan.specs.Names.{entry_in, value_names, text_names, list_names, function_named, aggregate_named, cast_named};
 
 use crate::{AggFunction, Function};
@@ -19,9 +19,10 @@ pub struct FunctionRow {
 pub fn find_function(name: &str) -> Option<FunctionRow>
     ensures { result ≡ function_named name.now }
 {
-    find_value_function(name)
-        .or_else(|| find_text_function(name))
-        .or_else(|| find_list_function(name))
+    match find_value_function(name) {
+        Some(row) => Some(row),
+        None => find_text_or_list_function(name),
+    }
 }
 
 /// The aggregate that a name calls, in any ASCII case; `COUNT` calls `Count`. Takes no memory.
@@ -61,6 +62,15 @@ pub fn cast_function(name: &str) -> Option<Function>
         Some(Function::ToString)
     } else {
         None
+    }
+}
+
+fn find_text_or_list_function(name: &str) -> Option<FunctionRow>
+    ensures { result ≡ entry_in (text_names ++ list_names) name.now }
+{
+    match find_text_function(name) {
+        Some(row) => Some(row),
+        None => find_list_function(name),
     }
 }
 
