@@ -42,9 +42,9 @@ cut_of (any_run ∷ before) behind characters stands =
       run = cut.run;
       last = cut.last;
       characters_are = sym (take-append-drop found.0 characters) ∙ ap (λ rest. front ++ rest) cut.characters_are
-        ∙ sym (append_assoc front cut.first (cut.run ++ cut.last));
+          ∙ sym (append_assoc front cut.first (cut.run ++ cut.last));
       first_stands = some_tail (stands_for before) (length front) (front ++ cut.first)
-        (ap (stands_for before) (drop_at front cut.first (length front) refl) ∙ cut.first_stands);
+          (ap (stands_for before) (drop_at front cut.first (length front) refl) ∙ cut.first_stands);
       last_stands = cut.last_stands;
     }
 cut_of (any_one ∷ before) behind [] stands = absurd cc
@@ -80,8 +80,8 @@ between false [] back closed = refl
 between true (character ∷ front) back closed = ap (λ parts. itself character ∷ parts) (between false front back closed)
 between false (character ∷ front) back closed =
     elim (character == 92) as (λ waits. end_open waits front ≡ false →
-      (if waits then wildcards_behind true (front ++ 42 ∷ back) else wildcard_of character ∷ wildcards_behind false (front ++ 42 ∷ back))
-      ≡ (if waits then wildcards_behind true front else wildcard_of character ∷ wildcards_behind false front) ++ any_run ∷ wildcards_behind false back)
+    (if waits then wildcards_behind true (front ++ 42 ∷ back) else wildcard_of character ∷ wildcards_behind false (front ++ 42 ∷ back))
+    ≡ (if waits then wildcards_behind true front else wildcard_of character ∷ wildcards_behind false front) ++ any_run ∷ wildcards_behind false back)
     [ true ↦ λ h. between true front back h | false ↦ λ h. ap (λ parts. wildcard_of character ∷ parts) (between false front back h) ] closed
 
 star_then : (back : List ℕ) → chars (codes "*" ++ back) ≡ 42 ∷ chars back
@@ -101,7 +101,7 @@ run_between front back text utf8 closed =
     let parts = parts_between front back utf8 closed in (
       λ like. cut_of (wildcards front) (wildcards back) (chars text) (ap (λ all. stands_for all (chars text)) (sym parts) ∙ like),
       λ cut.
-      ap (λ all. stands_for all (chars text)) parts
-      ∙ ap (stands_for (wildcards front ++ any_run ∷ wildcards back)) cut.characters_are
-      ∙ of_cut (wildcards front) (wildcards back) cut.first cut.run cut.last cut.first_stands cut.last_stands,
+          ap (λ all. stands_for all (chars text)) parts
+          ∙ ap (stands_for (wildcards front ++ any_run ∷ wildcards back)) cut.characters_are
+          ∙ of_cut (wildcards front) (wildcards back) cut.first cut.run cut.last cut.first_stands cut.last_stands,
     )

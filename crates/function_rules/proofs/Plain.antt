@@ -39,10 +39,10 @@ pub plain_is_itself : (pattern text : List ℕ) → IsUtf8 pattern → IsUtf8 te
 plain_is_itself pattern text own_utf8 utf8 plain =
     let parts = plain_parts (chars pattern) plain in (
       λ like.
-      let same = spelled (chars pattern) (chars text) (ap (λ all. stands_for all (chars text)) (sym parts) ∙ like) in
-      sym (encodes-chars text utf8) ∙ ap encode_utf8_all same ∙ encodes-chars pattern own_utf8,
+          let same = spelled (chars pattern) (chars text) (ap (λ all. stands_for all (chars text)) (sym parts) ∙ like) in
+          sym (encodes-chars text utf8) ∙ ap encode_utf8_all same ∙ encodes-chars pattern own_utf8,
       λ same.
-      ap₂ (λ all characters. stands_for all characters) parts (ap chars same) ∙ spells_itself (chars pattern),
+          ap₂ (λ all characters. stands_for all characters) parts (ap chars same) ∙ spells_itself (chars pattern),
     )
 
 star_alone : chars (codes "*") ≡ 42 ∷ []

@@ -1,4 +1,5 @@
-use crate::*;
+use crate::conversions::*;
+use crate::numbers::*;
 use number_rules::{Arithmetic, Comparison, NumberFault};
 use std::cmp::Ordering;
 use std::test::Fail;
