@@ -4,7 +4,9 @@
 mod computed;
 mod evaluate;
 mod row;
+mod rule;
 
 pub use computed::{Computed, compute};
 pub use evaluate::value_of;
 pub use row::{NamedCell, cell_at, put};
+pub use rule::NameRule;

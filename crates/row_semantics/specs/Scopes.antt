@@ -1,0 +1,33 @@
+-- What the names of an expression stand for where it stands.
+use Rattle.std.specs.Prelude.{ℕ, Bool, List, [], ◌∷◌, Option, Some, None, if◌then◌else◌}
+use Rattle.std.specs.Str.{bytes_eq}
+use Rattle.esql_types.specs.declared.places.Span.{Span}
+use Rattle.esql_types.specs.declared.names.Column.{Column}
+use Rattle.row_semantics.specs.declared.rule.NameRule.{NameRule}
+
+-- a broken rule and its place
+pub record Broken : Type 0 where
+  pub rule : NameRule
+  pub span : Span
+
+-- where an expression stands: in an aggregate, in a field of STATS outside its aggregates, or elsewhere
+pub data Standing : Type 0 where
+  elsewhere : Standing
+  in_field : Standing
+  in_aggregate : Standing
+
+-- What an expression is judged by: the columns there, where it stands, and for each regular expression by its place whether it
+-- is accepted.
+pub record Scope : Type 0 where
+  pub columns : List Column
+  pub standing : Standing
+  pub accepts : Span → Bool
+
+-- the first column of a name
+abbrev pub column_named : List Column → List ℕ → Option Column
+column_named [] name = None
+column_named (column ∷ columns) name = if bytes_eq column.name name then Some column else column_named columns name
+
+-- the scope within an aggregate
+abbrev pub within_aggregate : Scope → Scope
+within_aggregate scope = record scope { standing = in_aggregate }
