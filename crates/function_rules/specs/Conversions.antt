@@ -1,5 +1,5 @@
 -- Conversions of one value to another kind.
-use Rattle.std.specs.Prelude.{ℕ, ℤ, pos, Bool, true, false, not, map, List, codes}
+use Rattle.std.specs.Prelude.{ℕ, ℤ, pos, Bool, true, false, not, map, List, codes, if◌then◌else◌}
 use Rattle.std.specs.Ordering.{int_eq}
 use Rattle.std.specs.Char.{to_ascii_lowercase}
 use Rattle.std.specs.Str.{bytes_eq}

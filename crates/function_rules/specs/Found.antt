@@ -1,5 +1,5 @@
 -- RLIKE and REPLACE: what a regular expression finds in a text, as `regex` reads the pattern.
-use Rattle.std.specs.Prelude.{ℕ, Bool, List, [], ◌++◌, map, length, Option, Some, None, is_some, option_map, option_and_then, slice_range, codes}
+use Rattle.std.specs.Prelude.{ℕ, Bool, List, [], ◌∷◌, ◌++◌, map, length, Option, Some, None, is_some, option_map, option_and_then, slice_range, codes}
 use Rattle.std.specs.Str.{chars}
 use Rattle.regex_syntax.specs.Grammar.{read}
 use Rattle.regex_syntax.specs.Verdict.{default_config}
