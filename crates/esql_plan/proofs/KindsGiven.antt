@@ -1,6 +1,6 @@
 -- The kinds of what functions give whose result always has one kind.
-use Rattle.std.proofs.Common.{◌≡◌, ℕ, ℤ, Bool, true, false, List, [], ◌∷◌, ◌++◌, map, Option, Some, None, Result, Ok, Err, refl, subst, ◌∙◌, if◌then◌else◌}
-use Rattle.std.specs.List.{flat_map, list_all}
+use Rattle.std.proofs.Common.{◌≡◌, ℕ, ℤ, Bool, true, false, List, [], ◌∷◌, map, Option, Some, None, Result, Ok, Err, refl, subst, ◌∙◌, if◌then◌else◌}
+use Rattle.std.specs.List.{flat_map}
 use Rattle.std.proofs.lemmas.Bool.{and_from}
 use Rattle.std.proofs.lemmas.List.Folds.{list_all-append}
 use Rattle.esql_types.specs.declared.value.Value.{Value}
@@ -19,7 +19,7 @@ use Rattle.esql_plan.specs.declared.function.Function.{Function}
 use Rattle.esql_plan.specs.declared.function.Function.TheVariants as function
 use Rattle.esql_plan.specs.Rules as rules
 use Rattle.esql_plan.specs.Rules.{Rule, Given, Arguments, are, null, several, arguments_of, given_arguments, given_each, given_list, given_membership, first_cell, later_cells, truth_in, truth_given, is_item, number_of, text_of}
-use Rattle.esql_plan.specs.Functions.{of_one, of_two, of_three, of_one_truth, of_two_truths, alone, as_it_is, comparison_rule, like_rule, not_like_rule, rlike_rule, not_rlike_rule, integer_rule, long_rule, boolean_rule, string_rule, narrowed, spelled_as, number_in, length_rule, concat_rule, substring_rule, substring_given, left_rule, right_rule, trim_rule, ltrim_rule, rtrim_rule, starts_with_rule, ends_with_rule, replace_rule, split_rule, split_by, count_rule, concat_list_rule}
+use Rattle.esql_plan.specs.Functions.{of_one, of_two, of_three, of_one_truth, of_two_truths, alone, as_it_is, comparison_rule, like_rule, not_like_rule, rlike_rule, not_rlike_rule, integer_rule, long_rule, boolean_rule, string_rule, spelled_as, length_rule, concat_rule, substring_rule, substring_given, left_rule, right_rule, trim_rule, ltrim_rule, rtrim_rule, starts_with_rule, ends_with_rule, replace_rule, split_rule, split_by, count_rule, concat_list_rule}
 use Rattle.esql_plan.specs.Values.{Valued, cells_of, applied, applied_by}
 use Rattle.esql_plan.specs.Signatures.{Gives, always, of_values, of_numbers, signature_of, same_kind}
 use Rattle.esql_plan.specs.Fits.{has_kind}
