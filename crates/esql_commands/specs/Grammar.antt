@@ -19,10 +19,10 @@ use Rattle.esql_phrases.specs.declared.part.Part.{Part}
 use Rattle.esql_phrases.specs.Ends.{span_at}
 use Rattle.esql_phrases.specs.Parts.{join, span_of}
 use Rattle.esql_phrases.specs.Phrases.{IsName, Phrase}
-use Rattle.esql_commands.specs.declared.point.Body.{Body}
-use Rattle.esql_commands.specs.declared.point.Body.TheVariants as body
-use Rattle.esql_commands.specs.declared.point.CommandWord.{CommandWord}
-use Rattle.esql_commands.specs.declared.point.CommandWord.TheVariants as begins
+use Rattle.esql_commands.specs.declared.place.CommandEnd.{CommandEnd}
+use Rattle.esql_commands.specs.declared.place.CommandEnd.TheVariants as end
+use Rattle.esql_commands.specs.declared.words.CommandWord.{CommandWord}
+use Rattle.esql_commands.specs.declared.words.CommandWord.TheVariants as begins
 use Rattle.esql_commands.specs.Words.{command_word, is_join, is_append_separator}
 
 -- one item or more with a comma between each two, and the greatest depth of their expressions
@@ -113,23 +113,23 @@ pub data Separator : List Lexeme → List ℕ → Type 0 where
 --   | STATS statfields [ BY fields ] | STATS BY fields | DISSECT primary Text [ APPEND_SEPARATOR "=" Text ] | GROK primary Text
 --   | ENRICH Source [ ON name ] [ WITH item { "," item } ] | LOOKUP JOIN Source ON name
 -- what follows the word of a command
-pub data Says : CommandWord → List Lexeme → Body → ℕ → Type 0 where
-  from_says : {w : List Lexeme} {tables : List NameAt} {d : ℕ} → Listed TableLine w tables d → Says begins.From w (body.From tables) d
-  row_says : {w : List Lexeme} {fields : List Field} {d : ℕ} → Listed FieldLine w fields d → Says begins.Row w (body.Row fields) d
-  where_says : {w : List Lexeme} {p : Part} → Phrase 0 w p → Says begins.Where w (body.Command (command.Filter p.expr)) p.depth
-  eval_says : {w : List Lexeme} {fields : List Field} {d : ℕ} → Listed FieldLine w fields d → Says begins.Eval w (body.Command (command.Eval fields)) d
-  keep_says : {w : List Lexeme} {patterns : List NamePattern} {d : ℕ} → Listed PatternLine w patterns d → Says begins.Keep w (body.Command (command.Keep patterns)) d
-  drop_says : {w : List Lexeme} {patterns : List NamePattern} {d : ℕ} → Listed PatternLine w patterns d → Says begins.Drop w (body.Command (command.Drop patterns)) d
-  rename_says : {w : List Lexeme} {pairs : List RenamePair} {d : ℕ} → Listed PairLine w pairs d → Says begins.Rename w (body.Command (command.Rename pairs)) d
-  sort_says : {w : List Lexeme} {keys : List SortKey} {d : ℕ} → Listed KeyLine w keys d → Says begins.Sort w (body.Command (command.Sort keys)) d
-  limit_says : (count : ℕ) (at : Span) → Says begins.Limit (Number (pos count) at ∷ []) (body.Command (command.Limit count)) 0
-  expand_says : {x : Lexeme} {column : NameAt} → IsName x column → Says begins.MvExpand (x ∷ []) (body.Command (command.Expand column)) 0
-  stats_says : {w v : List Lexeme} {fields : List StatsField} {groups : List Field} {d e : ℕ} → Listed StatsLine w fields d → ByFields v groups e → Says begins.Stats (w ++ v) (body.Command (command.Stats fields groups)) (max d e)
-  stats_by_says : (by_ : Span) {w : List Lexeme} {groups : List Field} {d : ℕ} → Listed FieldLine w groups d → Says begins.Stats (Word word.By by_ ∷ w) (body.Command (command.Stats [] groups)) d
-  dissect_says : {w v : List Lexeme} {p : Part} {separator : List ℕ} (pattern : TextAt) → Phrase 8 w p → Separator v separator → Says begins.Dissect (w ++ Text pattern ∷ v) (body.Command (command.Dissect p.expr pattern separator)) p.depth
-  grok_says : {w : List Lexeme} {p : Part} (pattern : TextAt) → Phrase 8 w p → Says begins.Grok (w ++ Text pattern ∷ []) (body.Command (command.Grok p.expr pattern)) p.depth
-  enrich_says : (policy : NameAt) {u w : List Lexeme} {on : Option NameAt} {items : Option (List EnrichItem)} → OnName u on → WithItems w items → Says begins.Enrich (Source policy ∷ (u ++ w)) (body.Command (command.Enrich policy on items)) 0
-  join_says : (join_ table : NameAt) (on : Span) {x : Lexeme} {name : NameAt} → is_join join_.name ≡ true → IsName x name → Says begins.Lookup (Plain join_ ∷ Source table ∷ Word word.On on ∷ x ∷ []) (body.Command (command.Join table name)) 0
+pub data Says : CommandWord → List Lexeme → CommandEnd → ℕ → Type 0 where
+  from_says : {w : List Lexeme} {tables : List NameAt} {d : ℕ} → Listed TableLine w tables d → Says begins.From w (end.From tables) d
+  row_says : {w : List Lexeme} {fields : List Field} {d : ℕ} → Listed FieldLine w fields d → Says begins.Row w (end.Row fields) d
+  where_says : {w : List Lexeme} {p : Part} → Phrase 0 w p → Says begins.Where w (end.Piped (command.Filter p.expr)) p.depth
+  eval_says : {w : List Lexeme} {fields : List Field} {d : ℕ} → Listed FieldLine w fields d → Says begins.Eval w (end.Piped (command.Eval fields)) d
+  keep_says : {w : List Lexeme} {patterns : List NamePattern} {d : ℕ} → Listed PatternLine w patterns d → Says begins.Keep w (end.Piped (command.Keep patterns)) d
+  drop_says : {w : List Lexeme} {patterns : List NamePattern} {d : ℕ} → Listed PatternLine w patterns d → Says begins.Drop w (end.Piped (command.Drop patterns)) d
+  rename_says : {w : List Lexeme} {pairs : List RenamePair} {d : ℕ} → Listed PairLine w pairs d → Says begins.Rename w (end.Piped (command.Rename pairs)) d
+  sort_says : {w : List Lexeme} {keys : List SortKey} {d : ℕ} → Listed KeyLine w keys d → Says begins.Sort w (end.Piped (command.Sort keys)) d
+  limit_says : (count : ℕ) (at : Span) → Says begins.Limit (Number (pos count) at ∷ []) (end.Piped (command.Limit count)) 0
+  expand_says : {x : Lexeme} {column : NameAt} → IsName x column → Says begins.MvExpand (x ∷ []) (end.Piped (command.Expand column)) 0
+  stats_says : {w v : List Lexeme} {fields : List StatsField} {groups : List Field} {d e : ℕ} → Listed StatsLine w fields d → ByFields v groups e → Says begins.Stats (w ++ v) (end.Piped (command.Stats fields groups)) (max d e)
+  stats_by_says : (by_ : Span) {w : List Lexeme} {groups : List Field} {d : ℕ} → Listed FieldLine w groups d → Says begins.Stats (Word word.By by_ ∷ w) (end.Piped (command.Stats [] groups)) d
+  dissect_says : {w v : List Lexeme} {p : Part} {separator : List ℕ} (pattern : TextAt) → Phrase 8 w p → Separator v separator → Says begins.Dissect (w ++ Text pattern ∷ v) (end.Piped (command.Dissect p.expr pattern separator)) p.depth
+  grok_says : {w : List Lexeme} {p : Part} (pattern : TextAt) → Phrase 8 w p → Says begins.Grok (w ++ Text pattern ∷ []) (end.Piped (command.Grok p.expr pattern)) p.depth
+  enrich_says : (policy : NameAt) {u w : List Lexeme} {on : Option NameAt} {items : Option (List EnrichItem)} → OnName u on → WithItems w items → Says begins.Enrich (Source policy ∷ (u ++ w)) (end.Piped (command.Enrich policy on items)) 0
+  join_says : (join_ table : NameAt) (on : Span) {x : Lexeme} {name : NameAt} → is_join join_.name ≡ true → IsName x name → Says begins.Lookup (Plain join_ ∷ Source table ∷ Word word.On on ∷ x ∷ []) (end.Piped (command.Join table name)) 0
 
 -- the span of the last lexeme
 abbrev pub last_span : Span → List Lexeme → Span
@@ -137,6 +137,6 @@ last_span last [] = last
 last_span last (x ∷ w) = last_span (span_at x) w
 
 -- a command's span is from its word to its last lexeme
-pub data CommandLine : List Lexeme → Body → Span → ℕ → Type 0 where
-  command_line : (name : NameAt) {begin : CommandWord} {w : List Lexeme} {b : Body} {d : ℕ} → command_word name.name ≡ Some begin → Says begin w b d
-      → CommandLine (Plain name ∷ w) b (join name.span (last_span name.span w)) d
+pub data CommandLine : List Lexeme → CommandEnd → Span → ℕ → Type 0 where
+  command_line : (name : NameAt) {begin : CommandWord} {w : List Lexeme} {says : CommandEnd} {d : ℕ} → command_word name.name ≡ Some begin → Says begin w says d
+      → CommandLine (Plain name ∷ w) says (join name.span (last_span name.span w)) d

@@ -1,8 +1,8 @@
 -- The words of the grammar that are names: they are taken without regard to ASCII case.
-use Rattle.std.specs.Prelude.{ℕ, Bool, if◌then◌else◌, List, [], ◌∷◌, Option, Some, None, codes}
+use Rattle.std.specs.Prelude.{ℕ, Bool, true, false, if◌then◌else◌, List, [], ◌∷◌, Option, Some, None, codes}
 use Rattle.std.specs.Str.{str_eq_ignore_ascii_case}
-use Rattle.esql_commands.specs.declared.point.CommandWord.{CommandWord}
-use Rattle.esql_commands.specs.declared.point.CommandWord.TheVariants.{From, Row, Where, Eval, Keep, Drop, Rename, Sort, Limit, MvExpand, Stats, Dissect, Grok, Enrich, Lookup}
+use Rattle.esql_commands.specs.declared.words.CommandWord.{CommandWord}
+use Rattle.esql_commands.specs.declared.words.CommandWord.TheVariants.{From, Row, Where, Eval, Keep, Drop, Rename, Sort, Limit, MvExpand, Stats, Dissect, Grok, Enrich, Lookup}
 
 -- the words that commands begin with
 abbrev pub command_words : List (List ℕ × CommandWord)
@@ -12,16 +12,34 @@ command_words =
     ∷ (codes "MV_EXPAND", MvExpand) ∷ (codes "STATS", Stats) ∷ (codes "DISSECT", Dissect) ∷ (codes "GROK", Grok)
     ∷ (codes "ENRICH", Enrich) ∷ (codes "LOOKUP", Lookup) ∷ []
 
-abbrev pub word_in : List (List ℕ × CommandWord) → List ℕ → Option CommandWord
-word_in [] name = None
-word_in (word ∷ words) name = if str_eq_ignore_ascii_case name word.0 then Some word.1 else word_in words name
+abbrev pub command_in : List (List ℕ × CommandWord) → List ℕ → Option CommandWord
+command_in [] name = None
+command_in (word ∷ words) name = if str_eq_ignore_ascii_case name word.0 then Some word.1 else command_in words name
 
 -- the command that a name is the word of
 unfoldable pub command_word : List ℕ → Option CommandWord
-command_word name = word_in command_words name
+command_word name = command_in command_words name
 
 unfoldable pub is_join : List ℕ → Bool
 is_join name = str_eq_ignore_ascii_case name (codes "JOIN")
 
 unfoldable pub is_append_separator : List ℕ → Bool
 is_append_separator name = str_eq_ignore_ascii_case name (codes "APPEND_SEPARATOR")
+
+-- the command gives a query its first rows
+abbrev pub is_source : CommandWord → Bool
+is_source From = true
+is_source Row = true
+is_source Where = false
+is_source Eval = false
+is_source Keep = false
+is_source Drop = false
+is_source Rename = false
+is_source Sort = false
+is_source Limit = false
+is_source MvExpand = false
+is_source Stats = false
+is_source Dissect = false
+is_source Grok = false
+is_source Enrich = false
+is_source Lookup = false

@@ -1,204 +1,80 @@
-use esql_ast::{
-    CommandKind, EnrichItem, Expr, Field, NameAt, NamePattern, RenamePair, SortKey, StatsField,
-    TextAt,
-};
-use esql_expr::Reader;
-use esql_phrases::Part;
-use esql_types::Seq;
+//! What a lexeme other than `|` and the end makes of a command, and what a command says that ends.
 
-/// What fields are those of.
-#[derive(Drop)]
-pub enum Clause {
-    Row,
-    Eval,
-    /// The groups of STATS, after its fields.
-    Groups { fields: Seq<StatsField> },
+ghost use Rattle.std.specs.Prelude.{◌≡◌, IfOk};
+ghost use Rattle.esql_commands.specs.Points.{moved, continue_command, piped, finished_command};
+
+use crate::dissect::{continue_dissect, finished_dissect};
+use crate::enrich::{continue_enrich, finished_enrich};
+use crate::expand::want_column;
+use crate::from::{continue_from, finished_from};
+use crate::join::continue_join;
+use crate::limit::want_count;
+use crate::pattern::{continue_pattern, finished_pattern};
+use crate::rename::{continue_rename, finished_rename};
+use crate::slot::{continue_slot, finished_slot};
+use crate::sort::{continue_sort, finished_sort};
+use crate::stats::have_stats;
+use crate::{CommandEnd, Move, Place, Point};
+use esql_ast::CommandKind;
+use esql_phrases::Lexeme;
+use std::alloc::{AllocError, Global};
+
+fn moved(place: Option<Place>) -> Option<Move>
+    ensures { result ≡ moved place }
+{
+    match place {
+        Some(place) => Some(Move::To(place)),
+        None => None,
+    }
 }
 
-/// Where an expression stands in a command.
-#[derive(Drop)]
-pub enum Slot {
-    /// In a field, after others and perhaps a name.
-    Field {
-        clause: Clause,
-        fields: Seq<Field>,
-        name: Option<NameAt>,
-    },
-    /// In a field of STATS.
-    Aggregate {
-        fields: Seq<StatsField>,
-        name: Option<NameAt>,
-    },
-    /// In the condition of a field of STATS.
-    Restriction {
-        fields: Seq<StatsField>,
-        field: Field,
-    },
-    /// After WHERE.
-    Filter,
-    /// In a key of SORT.
-    Key {
-        keys: Seq<SortKey>,
-    },
-    /// After DISSECT.
-    Dissect,
-    /// After GROK.
-    Grok,
+/// What a lexeme other than `|` and the end makes of a command, or `None` where no command continues with it. The error is
+/// want of memory.
+pub fn continue_command(
+    alloc: Global,
+    here: Point,
+    next: Lexeme,
+) -> Result<Option<Move>, AllocError>
+    ensures { IfOk result (λ move. move ≡ continue_command here next) }
+{
+    match here {
+        Point::Ended { slot, part } => Ok(moved(continue_slot(alloc, slot, part, next)?)),
+        Point::From(here) => Ok(moved(continue_from(here, next)?)),
+        Point::Pattern { of, here } => Ok(moved(continue_pattern(of, here, next)?)),
+        Point::Rename(here) => Ok(moved(continue_rename(here, next)?)),
+        Point::Sort(here) => Ok(moved(continue_sort(here, next)?)),
+        Point::Limit => Ok(moved(want_count(next))),
+        Point::Expand => Ok(moved(want_column(next))),
+        Point::Stats => Ok(Some(have_stats(alloc, next))),
+        Point::Dissect(here) => Ok(moved(continue_dissect(here, next))),
+        Point::Enrich(here) => Ok(moved(continue_enrich(alloc, here, next)?)),
+        Point::Join(here) => Ok(moved(continue_join(here, next))),
+        Point::Whole(_) => Ok(None),
+    }
 }
 
-/// What was read last, where no expression is open.
-#[derive(Drop)]
-pub enum Point {
-    /// The source command has to begin.
-    Source,
-    /// A command has to begin.
-    Command,
-    /// An expression that nothing goes on with.
-    Ended {
-        slot: Slot,
-        part: Part,
-    },
-    /// FROM or a comma.
-    FromNext {
-        tables: Seq<NameAt>,
-    },
-    FromTable {
-        tables: Seq<NameAt>,
-    },
-    /// KEEP, DROP or a comma.
-    PatternNext {
-        dropped: bool,
-        patterns: Seq<NamePattern>,
-    },
-    Pattern {
-        dropped: bool,
-        patterns: Seq<NamePattern>,
-    },
-    /// RENAME or a comma.
-    RenameNext {
-        pairs: Seq<RenamePair>,
-    },
-    RenameBefore {
-        pairs: Seq<RenamePair>,
-        before: NameAt,
-    },
-    RenameAs {
-        pairs: Seq<RenamePair>,
-        before: NameAt,
-    },
-    RenameAfter {
-        pairs: Seq<RenamePair>,
-    },
-    /// A key and ASC or DESC.
-    KeyOrder {
-        keys: Seq<SortKey>,
-        expr: Expr,
-        descending: bool,
-    },
-    /// A key and NULLS.
-    KeyNulls {
-        keys: Seq<SortKey>,
-        expr: Expr,
-        descending: bool,
-    },
-    /// A key, NULLS and FIRST or LAST.
-    KeyWhole {
-        keys: Seq<SortKey>,
-    },
-    Limit,
-    Expand,
-    Stats,
-    DissectPattern {
-        input: Expr,
-        pattern: TextAt,
-    },
-    DissectSeparator {
-        input: Expr,
-        pattern: TextAt,
-    },
-    DissectAssign {
-        input: Expr,
-        pattern: TextAt,
-    },
-    Enrich,
-    EnrichPolicy {
-        policy: NameAt,
-    },
-    EnrichOn {
-        policy: NameAt,
-    },
-    EnrichColumn {
-        policy: NameAt,
-        on: NameAt,
-    },
-    /// WITH or a comma.
-    EnrichNext {
-        policy: NameAt,
-        on: Option<NameAt>,
-        items: Seq<EnrichItem>,
-    },
-    /// A name, which is that of a field or a new one.
-    EnrichName {
-        policy: NameAt,
-        on: Option<NameAt>,
-        items: Seq<EnrichItem>,
-        name: NameAt,
-    },
-    EnrichAssign {
-        policy: NameAt,
-        on: Option<NameAt>,
-        items: Seq<EnrichItem>,
-        name: NameAt,
-    },
-    EnrichField {
-        policy: NameAt,
-        on: Option<NameAt>,
-        items: Seq<EnrichItem>,
-    },
-    Lookup,
-    Join,
-    JoinTable {
-        table: NameAt,
-    },
-    JoinOn {
-        table: NameAt,
-    },
-    /// A command that nothing goes on with.
-    Whole(CommandKind),
+fn piped(kind: Option<CommandKind>) -> Option<CommandEnd>
+    ensures { result ≡ piped kind }
+{
+    match kind {
+        Some(kind) => Some(CommandEnd::Piped(kind)),
+        None => None,
+    }
 }
 
-/// Where a query stands that is being read.
-#[derive(Drop)]
-pub enum Inside {
-    Open { slot: Slot, reader: Reader },
-    At(Point),
-    Done,
-}
-
-/// What a whole command says.
-#[derive(Drop)]
-pub enum Body {
-    From(Seq<NameAt>),
-    Row(Seq<Field>),
-    Command(CommandKind),
-}
-
-/// The word that a command begins with.
-#[derive(Clone, Copy, Debug, PartialEq, Eq)]
-pub enum CommandWord {
-    From,
-    Row,
-    Where,
-    Eval,
-    Keep,
-    Drop,
-    Rename,
-    Sort,
-    Limit,
-    MvExpand,
-    Stats,
-    Dissect,
-    Grok,
-    Enrich,
-    Lookup,
+/// What a command says that ends at a point, or `None` where none can end. The error is want of memory.
+pub fn finished_command(alloc: Global, here: Point) -> Result<Option<CommandEnd>, AllocError>
+    ensures { IfOk result (λ end. end ≡ finished_command here) }
+{
+    match here {
+        Point::Ended { slot, part } => finished_slot(alloc, slot, part),
+        Point::From(here) => Ok(finished_from(here)),
+        Point::Pattern { of, here } => Ok(piped(finished_pattern(of, here))),
+        Point::Rename(here) => Ok(piped(finished_rename(here))),
+        Point::Sort(here) => Ok(piped(finished_sort(here)?)),
+        Point::Dissect(here) => Ok(piped(finished_dissect(alloc, here))),
+        Point::Enrich(here) => Ok(piped(finished_enrich(here)?)),
+        Point::Whole(kind) => Ok(Some(CommandEnd::Piped(kind))),
+        Point::Limit | Point::Expand | Point::Stats | Point::Join(_) => Ok(None),
+    }
 }

@@ -1,9 +1,27 @@
 //! The words of the grammar that are names.
 
 ghost use Rattle.std.specs.Prelude.{◌≡◌};
-ghost use Rattle.esql_commands.specs.Words.{command_word, is_join, is_append_separator};
+ghost use Rattle.esql_commands.specs.Words.{command_word, is_source, is_join, is_append_separator};
 
-use crate::CommandWord;
+/// The word that a command begins with.
+#[derive(Clone, Copy, Debug, PartialEq, Eq)]
+pub enum CommandWord {
+    From,
+    Row,
+    Where,
+    Eval,
+    Keep,
+    Drop,
+    Rename,
+    Sort,
+    Limit,
+    MvExpand,
+    Stats,
+    Dissect,
+    Grok,
+    Enrich,
+    Lookup,
+}
 
 #[tactic(auto, unfolding(crate::specs::Words::command_word))]
 pub(crate) fn command_word(name: &str) -> Option<CommandWord>
@@ -56,4 +74,13 @@ pub(crate) fn is_append_separator(name: &str) -> bool
     ensures { result ≡ is_append_separator name.now }
 {
     name.eq_ignore_ascii_case("APPEND_SEPARATOR")
+}
+
+impl CommandWord {
+    // Whether the command gives a query its first rows.
+    pub(crate) fn is_source(self) -> bool
+        ensures { result ≡ is_source self }
+    {
+        matches!(self, CommandWord::From | CommandWord::Row)
+    }
 }

@@ -24,7 +24,8 @@ use Rattle.esql_phrases.specs.Parts.{column_part, call_part, group_part, cast_pa
 use Rattle.esql_phrases.specs.Phrases.{IsName, plain_name, dotted_name, quoted_name, IsKindName, plain_kind, dotted_kind, operator, Literal, number_literal, negative_literal, text_literal, true_literal, false_literal, Literals, one_literal, next_literal, InWords, in_word, not_in_words, like_word, rlike_word, LikeWords, likes, not_likes, IsWords, is_words, is_not_words, Phrase, looser, number_line, text_line, true_line, false_line, null_line, list_line, name_line, group_line, empty_line, star_line, call_line, cast_line, minus_line, not_line, binary_line, in_line, like_line, is_line, Items, one_item, next_item}
 use Rattle.esql_expr.specs.Machine.{reader, hole, opener, operand_line, own_line, goes_to, feed, close, begin, after_name, after_open, step, going, and_then, walk}
 use Rattle.esql_phrases.proofs.Begins.{Beginner, Begins, begins_items}
-use Rattle.esql_expr.proofs.Walks.{walk-append, le_true, line_of_phrase, opener_operator, opens, feed_opens, leaves, NoParen, Stops, operator_follows, stops_wider, none_stops, some_stops, line_left, line_right}
+use Rattle.esql_phrases.proofs.Lines.{line_of_phrase}
+use Rattle.esql_expr.proofs.Walks.{walk-append, le_true, opener_operator, opens, feed_opens, leaves, NoParen, Stops, operator_follows, stops_wider, none_stops, some_stops, line_left, line_right}
 
 -- a walk goes on from where another ended
 pub walk_from : (w v : List Lexeme) (from mid : Reader) → walk w from ≡ Some mid → walk (w ++ v) from ≡ walk v mid

@@ -27,7 +27,7 @@ use Rattle.esql_expr.specs.declared.machine.Opener.TheVariants.{Infix, Not as De
 use Rattle.esql_phrases.specs.Parts.{column_part, minus_part, not_part, binary_part}
 use Rattle.esql_phrases.specs.Phrases.{plain_name, dotted_name, quoted_name, plain_kind, dotted_kind, operator, Literal, number_literal, negative_literal, text_literal, true_literal, false_literal, Literals, one_literal, next_literal, InWords, in_word, not_in_words, like_word, rlike_word, LikeWords, likes, not_likes, is_words, is_not_words, Phrase, number_line, text_line, true_line, false_line, null_line, list_line, name_line, group_line, empty_line, star_line, call_line, cast_line, minus_line, not_line, binary_line, in_line, like_line, is_line, Items, one_item, next_item}
 use Rattle.esql_expr.specs.Machine.{reader, start, hole, word_opener, sign_opener, operand_line, own_line, takes, opened_by, opened, or_closed, close_group, close_call, close_within, feed, begin_word, begin_sign, begin, after_name, after_open, after_star, after_not, after_in, after_like, after_is, after_is_not, after_cast, in_list, after_minus, after_literal, step_at, step, going, and_then, walk}
-use Rattle.esql_expr.proofs.Walks.{lift}
+use Rattle.esql_phrases.proofs.Lines.{lift}
 use Rattle.esql_expr.proofs.Grows.{least_kept}
 use Rattle.esql_expr.proofs.Reached.{SoFar, none_yet, so_far, LiteralsSoFar, no_literal, some_literals, Before, nothing_open, binary_open, group_open, minus_open, not_open, call_open, within_open, Read, wants, has, names, calls, stars, denies, amongs, matches, tests, tests_not, casts, lists, negates, listed, Leads, Means}
 

@@ -16,7 +16,7 @@ use Rattle.esql_expr.specs.declared.machine.Top.TheVariants.{Want, Have, Named, 
 use Rattle.esql_phrases.specs.Parts.{number_value, constant_part}
 use Rattle.esql_phrases.specs.Phrases.{plain_name, plain_kind, Literal, number_literal, negative_literal, like_word, not_likes, is_words, is_not_words, Phrase, looser, number_line, text_line, true_line, false_line, null_line, list_line, name_line, group_line, empty_line, star_line, call_line, cast_line, minus_line, not_line, binary_line, in_line, like_line, is_line, one_item}
 use Rattle.esql_expr.specs.Machine.{hole}
-use Rattle.esql_expr.proofs.Walks.{lift}
+use Rattle.esql_phrases.proofs.Lines.{depth_one, lift}
 use Rattle.esql_expr.proofs.Reached.{Before, nothing_open, binary_open, group_open, minus_open, not_open, call_open, within_open, Read, wants, has, names, calls, stars, denies, amongs, matches, tests, tests_not, casts, lists, negates, listed}
 use Rattle.esql_expr.specs.Machine.{up, depth_at}
 use Rattle.esql_expr.proofs.Sound.{anywhere, with_item, with_literal}
@@ -67,28 +67,6 @@ completes least (Call function es d ∷ above) {w = w} k (call_open _ opening {u
     completed_with (Mark sign.CloseParen nowhere ∷ []) (completed_at (sym (simp append_assoc)) (completes least above k b (anywhere above k (call_line function opening nowhere (with_item i q)))))
 completes least (Within n left es d ∷ above) {w = w} k (within_open opening {u = u} {w = v} {i = j} {m = m} b l le words i) q =
     completed_with (Mark sign.CloseParen nowhere ∷ []) (completed_at (sym (simp append_assoc)) (completes least above k b (lift le (in_line opening nowhere words l (with_item i q)))))
-
--- no expression has the depth 0
-pub depth_one : {n : ℕ} {w : List Lexeme} {p : Part} → Phrase n w p → 1 ≤ p.depth
-depth_one (looser q) = depth_one q
-depth_one (number_line number span) = omega arith
-depth_one (text_line text) = omega arith
-depth_one (true_line span) = omega arith
-depth_one (false_line span) = omega arith
-depth_one (null_line span) = omega arith
-depth_one (list_line opening closing vs) = omega arith
-depth_one (name_line name) = omega arith
-depth_one (group_line opening closing q) = omega arith
-depth_one (empty_line function opening closing) = omega arith
-depth_one (star_line function opening star closing) = omega arith
-depth_one (call_line function opening closing es) = omega arith
-depth_one (cast_line cast q kind) = omega arith
-depth_one (minus_line minus q) = omega arith
-depth_one (not_line not q) = omega arith
-depth_one (binary_line op span l q) = omega arith
-depth_one (in_line opening closing words q es) = omega arith
-depth_one (like_line pattern words q) = omega arith
-depth_one (is_line words q) = omega arith
 
 one_more : (n : ℕ) → 1 ≤ n → 1 + max n 1 ≡ 1 + n
 one_more n h = omega arith

@@ -42,36 +42,6 @@ le_true m n h = le-leb m n h
 pub lt_false : (m n : ℕ) → m < n → nat_le n m ≡ false
 lt_false m n h = grind (arith, nat_tests)
 
--- a phrase is at least in its line
-pub line_of_phrase : {n : ℕ} {w : List Lexeme} {p : Part} → Phrase n w p → n ≤ p.line
-line_of_phrase (looser p) = let h = line_of_phrase p in omega arith
-line_of_phrase (number_line number at) = omega arith
-line_of_phrase (text_line text) = omega arith
-line_of_phrase (true_line at) = omega arith
-line_of_phrase (false_line at) = omega arith
-line_of_phrase (null_line at) = omega arith
-line_of_phrase (list_line opening closing vs) = omega arith
-line_of_phrase (name_line name) = omega arith
-line_of_phrase (group_line opening closing p) = omega arith
-line_of_phrase (empty_line function opening closing) = omega arith
-line_of_phrase (star_line function opening star closing) = omega arith
-line_of_phrase (call_line function opening closing es) = omega arith
-line_of_phrase (cast_line cast p kind) = omega arith
-line_of_phrase (minus_line minus p) = omega arith
-line_of_phrase (not_line not p) = omega arith
-line_of_phrase (binary_line op at p q) = omega arith
-line_of_phrase (in_line opening closing m p es) = omega arith
-line_of_phrase (like_line pattern m p) = omega arith
-line_of_phrase (is_line m p) = omega arith
-
-lift_by : (d m n : ℕ) {w : List Lexeme} {p : Part} → d + m ≡ n → Phrase n w p → Phrase m w p
-lift_by zero m n {w} {p} e phrase = let e' : n ≡ m = omega arith in subst (λ i. Phrase i w p) e' phrase
-lift_by (suc d) m n {w} {p} e phrase = looser (lift_by d (suc m) n (omega arith) phrase)
-
--- a phrase of one line is one of each line before it
-pub lift : {m n : ℕ} {w : List Lexeme} {p : Part} → m ≤ n → Phrase n w p → Phrase m w p
-lift {m} {n} h phrase = lift_by (n - m) m n (omega arith) phrase
-
 pub opener_operator : (op : BinaryOp) (at : Span) → opener (operator op at) ≡ Some (Infix op)
 opener_operator Or at = refl
 opener_operator And at = refl

@@ -1,9 +1,6 @@
--- No expression goes on with `|` or with the end.
+-- No expression continues with `|` or with the end.
 use Rattle.std.proofs.Common.{◌≡◌, ℕ, List, [], ◌∷◌}
-use Rattle.esql_types.specs.declared.places.Span.{Span}
-use Rattle.esql_lex.specs.declared.token.Sign.TheVariants as sign
 use Rattle.esql_phrases.specs.declared.lexeme.Lexeme.{Lexeme}
-use Rattle.esql_phrases.specs.declared.lexeme.Lexeme.TheVariants.{Sign as Mark, End}
 use Rattle.esql_phrases.specs.declared.part.Part.{Part}
 use Rattle.esql_expr.specs.declared.machine.Frame.{Frame}
 use Rattle.esql_expr.specs.declared.machine.Frame.TheVariants.{Binary, Group, Minus, Not, Call, Within}
@@ -13,10 +10,7 @@ use Rattle.esql_expr.specs.declared.machine.Reader.{Reader}
 use Rattle.esql_expr.specs.declared.machine.Stepped.TheVariants.{Goes}
 use Rattle.esql_phrases.specs.Parts.{column_part, minus_part, not_part, binary_part}
 use Rattle.esql_expr.specs.Machine.{feed, step_at, step}
-
-pub data Ender : Lexeme → Type 0 where
-  bar_ends : (at : Span) → Ender (Mark sign.Bar at)
-  end_ends : (at : Span) → Ender (End at)
+use Rattle.esql_commands.proofs.Stops.{Ender, bar_ends, end_ends}
 
 feed_stops : {x : Lexeme} → Ender x → (least : ℕ) (frames : List Frame) (part : Part) (next : Reader) → feed least frames part x ≡ Goes next → ⊥
 unfolding feed

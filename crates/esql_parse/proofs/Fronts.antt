@@ -6,23 +6,27 @@ use Rattle.esql_phrases.specs.declared.lexeme.Lexeme.TheVariants.{End}
 use Rattle.esql_expr.specs.declared.machine.Reader.{Reader}
 use Rattle.esql_expr.specs.declared.machine.Stepped.{Stepped}
 use Rattle.esql_expr.specs.declared.machine.Stepped.TheVariants.{Goes, Ends, Stuck}
+use Rattle.esql_phrases.specs.Parts.{join}
 use Rattle.esql_expr.specs.Machine as expr
 use Rattle.esql_expr.proofs.Sound.{and_then_some}
-use Rattle.esql_commands.specs.declared.point.Body.{Body}
-use Rattle.esql_commands.specs.declared.point.Inside.TheVariants.{Open, At, Done}
-use Rattle.esql_commands.specs.declared.point.Point.TheVariants as point
-use Rattle.esql_commands.specs.declared.point.Slot.{Slot}
+use Rattle.esql_commands.specs.declared.place.CommandEnd.{CommandEnd}
+use Rattle.esql_parse.specs.declared.state.Inside.{Inside}
+use Rattle.esql_parse.specs.declared.state.Inside.TheVariants.{Open, At, Done}
+use Rattle.esql_commands.specs.declared.place.Point.TheVariants as point
+use Rattle.esql_commands.specs.declared.place.Slot.{Slot}
+use Rattle.esql_parse.specs.declared.state.Progress.{Progress}
 use Rattle.esql_parse.specs.declared.state.State.{State}
 use Rattle.esql_parse.specs.declared.state.Written.{Written}
-use Rattle.esql_commands.specs.Points.{body_at}
-use Rattle.esql_parse.specs.Machine.{ended_with, ended, step_point, step_expr, step_inside, step, need_inside, need, piped, pipes, start, walk}
-use Rattle.esql_parse.specs.Grammar.{with_body}
+use Rattle.esql_commands.specs.Points.{finished_command}
+use Rattle.esql_parse.specs.Machine.{ended_with, ended, deeper, step_point, step_expr, step_inside, step, need_inside, need, piped, pipes, start, walk}
+use Rattle.esql_parse.specs.Grammar.{with_command}
 use Rattle.esql_parse.specs.Refusals.{Front, FrontWithin}
 use Rattle.esql_parse.proofs.Accepts.{accepts}
-use Rattle.esql_parse.proofs.Enders.{end_ends, no_expression}
+use Rattle.esql_commands.proofs.Stops.{end_ends}
+use Rattle.esql_parse.proofs.Enders.{no_expression}
 use Rattle.esql_parse.proofs.Grows.{ends_same, walk_grows}
-use Rattle.esql_commands.specs.declared.point.CommandWord.{CommandWord}
-use Rattle.esql_parse.proofs.Reached.{Inner, Read, to_begin, in_command, at_end}
+use Rattle.esql_commands.specs.declared.words.CommandWord.{CommandWord}
+use Rattle.esql_parse.proofs.Reached.{Inner, in_slot, at_point, Read, to_begin, in_command, at_end}
 use Rattle.esql_parse.proofs.Sound.{walked}
 use Rattle.esql_parse.proofs.Steps.{walk-append}
 use Rattle.esql_parse.proofs.Viable.{viable}
@@ -36,10 +40,10 @@ pub front_within : (limit most : ℕ) (w : List Lexeme) (s : State) → walk w s
 front_within limit most w s e h k = let v = viable w s e in let count = v.3 in record { rest = v.0; written = v.1; depth = need s; spells = v.2; shallow = h; few = omega arith }
 
 -- at the end nothing more is needed
-need_done : (s : State) → s.inside ≡ Done → need s ≡ s.deepest
-need_done s e = ap (need_inside s.deepest) e
+need_done : (s : State) → s.inside ≡ Done → need s ≡ s.progress.deepest
+need_done s e = ap (need_inside s.progress.deepest) e
 
-pipes_done : (s : State) (written : Written) → s.before ≡ Some written → s.inside ≡ Done → pipes s ≡ length written.commands
+pipes_done : (s : State) (written : Written) → s.progress.before ≡ Some written → s.inside ≡ Done → pipes s ≡ length written.commands
 pipes_done s written e f = ap (λ o. piped o s.inside) e ∙ ap (piped (Some written)) f
 
 pub front_walked : {w : List Lexeme} → Front w → (s : State) × (walk w start ≡ Some s)
@@ -67,28 +71,30 @@ front_within_walked {limit} {most} {w} f =
 arrived_done : {r s : State} → Some r ≡ Some s → r.inside ≡ Done → s.inside ≡ Done
 arrived_done {r} {s} e f = let same : r ≡ s = cc in sym (ap (λ (t : State). t.inside) same) ∙ f
 
-ended_done : (s : State) (deepest : ℕ) (x : Lexeme) (o : Option Written) {to : State} → ended_with deepest s x Done o ≡ Some to → to.inside ≡ Done
-ended_done s deepest x (Some written) e = arrived_done e refl
-ended_done s deepest x None e = cc
+ended_done : (p : Progress) (last : Span) (o : Option Written) {to : State} → ended_with p last Done o ≡ Some to → to.inside ≡ Done
+ended_done p last (Some written) e = arrived_done e refl
+ended_done p last None e = cc
 
-body_done : (s : State) (deepest : ℕ) (x : Lexeme) (o : Option Body) {to : State} → ended s deepest x Done o ≡ Some to → to.inside ≡ Done
-body_done s deepest x (Some says) e = ended_done s deepest x (with_body s.before says _) e
-body_done s deepest x None e = cc
+command_done : (p : Progress) (last : Span) (o : Option CommandEnd) {to : State} → ended p last Done o ≡ Some to → to.inside ≡ Done
+command_done p last (Some says) e = ended_done p last (with_command p.before says (join p.word p.last)) e
+command_done p last None e = cc
 
-expr_done : (s : State) (place : Slot) (reader : Reader) (at : Span) (o : Stepped) {to : State} {begin : CommandWord} {v : List Lexeme} {d : ℕ} → Inner begin (Open place reader) v d → expr.step reader (End at) ≡ o
-    → step_expr s place o (End at) ≡ Some to → to.inside ≡ Done
-expr_done s place reader at (Goes next) i f e = absurd (no_expression reader next (end_ends at) f)
-expr_done s place reader at (Ends part next) {to} i f e =
-    body_done s (max s.deepest part.depth) (End at) (body_at (point.Ended place part))
-    (subst (λ (y : Lexeme). step_point s (max s.deepest part.depth) (point.Ended place part) y ≡ Some to) (ends_same (End at) i f) e)
-expr_done s place reader at Stuck i f e = cc
+expr_done : (p : Progress) (slot : Slot) (reader : Reader) (at : Span) (o : Stepped) {to : State} {begin : CommandWord} {v : List Lexeme} {d : ℕ} → Inner begin (Open slot reader) v d → expr.step reader (End at) ≡ o
+    → step_expr p slot o (End at) ≡ Some to → to.inside ≡ Done
+expr_done p slot reader at (Goes next) i f e = absurd (no_expression reader next (end_ends at) f)
+expr_done p slot reader at (Ends part next) {to} i f e =
+    command_done (deeper p part.depth) at (finished_command (point.Ended slot part))
+    (subst (λ (y : Lexeme). step_point (deeper p part.depth) (point.Ended slot part) y ≡ Some to) (ends_same (End at) i f) e)
+expr_done p slot reader at Stuck i f e = cc
+
+inside_done : {begin : CommandWord} {inside : Inside} {v : List Lexeme} {d : ℕ} {to : State} (p : Progress) (at : Span) → Inner begin inside v d → step_inside p inside (End at) ≡ Some to → to.inside ≡ Done
+inside_done p at (in_slot w {slot = slot} {reader = reader} l h) e = expr_done p slot reader at (expr.step reader (End at)) (in_slot w l h) refl e
+inside_done p at (at_point {here = here} l) e = command_done p at (finished_command here) e
 
 end_steps : {s to : State} {w : List Lexeme} (at : Span) → Read s w → step s (End at) ≡ Some to → to.inside ≡ Done
 end_steps at (to_begin {before = None} lead) e = cc
 end_steps at (to_begin {before = Some written} lead) e = cc
-end_steps {s} at (in_command name {inside = Open place reader} lead c kind i) e = expr_done s place reader at (expr.step reader (End at)) i refl e
-end_steps {s} at (in_command name {inside = At here} lead c kind i) e = body_done s s.deepest (End at) (body_at here) e
-end_steps at (in_command name {inside = Done} lead c kind i) e = cc
+end_steps {s} at (in_command name lead c kind i) e = inside_done s.progress at i e
 end_steps at (at_end q) e = cc
 
 -- what ends with the end is at its end
@@ -99,6 +105,6 @@ ends_done v at s e =
     let same : m.0 ≡ s = cc in
     ap (λ (t : State). t.inside) (sym same) ∙ end_steps at (walked n.1) m.1
 
--- and goes on with nothing
+-- and nothing continues it
 pub done_stops : (s : State) (x : Lexeme) → s.inside ≡ Done → step s x ≡ None
-done_stops s x e = ap (λ inside. step_inside s inside x) e
+done_stops s x e = ap (λ inside. step_inside s.progress inside x) e

@@ -15,9 +15,9 @@ use Rattle.esql_parse.specs.declared.error.ParseError.{ParseError}
 use Rattle.esql_parse.specs.declared.error.ParseError.TheVariants.{Unexpected, TooDeep, TooMany, Memory}
 use Rattle.esql_parse.specs.declared.state.Written.{Written}
 use Rattle.esql_parse.specs.declared.state.State.{State}
-use Rattle.esql_commands.specs.declared.point.Inside.TheVariants.{Done}
+use Rattle.esql_parse.specs.declared.state.Inside.TheVariants.{Done}
 use Rattle.esql_parse.specs.Grammar.{SpellsQuery}
-use Rattle.esql_parse.specs.Limits.{GoesOn, Leaves, written_in, written_of}
+use Rattle.esql_parse.specs.Limits.{Continues, Leaves, written_in, written_of}
 use Rattle.esql_parse.specs.Machine.{need, need_inside, pipes, piped, start, walk}
 use Rattle.esql_parse.specs.Refusals.{RefusesAt}
 use Rattle.esql_parse.specs.Spells.{lexemes_of}
@@ -75,16 +75,16 @@ end_last text tokens once =
     ap (lexemes_of text) once.whole ∙ map-append (lexeme_of text) once.front (once.last ∷ [])
     ∙ ap (λ (x : Lexeme). lexemes_of text once.front ++ x ∷ []) (end_lexeme once.last.kind (slice_of text once.last) once.last.span once.end)
 
-done_written : (s : State) (o : Option Written) → s.inside ≡ Done → written_of s ≡ o → s.before ≡ o
-done_written s o e f = sym (ap (written_in s.before) e) ∙ f
+done_written : (s : State) (o : Option Written) → s.inside ≡ Done → written_of s ≡ o → s.progress.before ≡ o
+done_written s o e f = sym (ap (written_in s.progress.before) e) ∙ f
 
 -- every token was read, and the lexemes spell the query of the state
 pub read_whole : (text : List ℕ) (tokens : List Token) (s : State) → EndsOnce tokens → walk (lexemes_of text tokens) start ≡ Some s
-    → (written : Written) × (written_of s ≡ Some written) × SpellsQuery (lexemes_of text tokens) written s.deepest × (s.inside ≡ Done)
+    → (written : Written) × (written_of s ≡ Some written) × SpellsQuery (lexemes_of text tokens) written s.progress.deepest × (s.inside ≡ Done)
 read_whole text tokens s once walks =
     let done : s.inside ≡ Done = ends_done (lexemes_of text once.front) once.last.span s (subst (λ (w : List Lexeme). walk w start ≡ Some s) (end_last text tokens once) walks) in
     let spelled = spelled walks done in
-    (spelled.0, ap (written_in s.before) done ∙ spelled.1, spelled.2, done)
+    (spelled.0, ap (written_in s.progress.before) done ∙ spelled.1, spelled.2, done)
 
 some_same : {A : Type 0} {a b : A} → Some a ≡ Some b → a ≡ b
 some_same e = cc
@@ -96,20 +96,20 @@ read_answer text tokens s written once walks shallow few is =
     let whole = read_whole text tokens s once walks in
     let same : whole.0 ≡ written = some_same (sym whole.1 ∙ is) in
     let done : s.inside ≡ Done = whole.3 in
-    let before : s.before ≡ Some whole.0 = done_written s (Some whole.0) done whole.1 in
-    let deep : s.deepest ≤ 100 = subst (λ i. need_inside s.deepest i ≤ 100) done shallow in
-    let piped_done : piped s.before Done ≤ 200 = subst (λ i. piped s.before i ≤ 200) done few in
+    let before : s.progress.before ≡ Some whole.0 = done_written s (Some whole.0) done whole.1 in
+    let deep : s.progress.deepest ≤ 100 = subst (λ i. need_inside s.progress.deepest i ≤ 100) done shallow in
+    let piped_done : piped s.progress.before Done ≤ 200 = subst (λ i. piped s.progress.before i ≤ 200) done few in
     let count : length whole.0.commands ≤ 200 = subst (λ b. piped b Done ≤ 200) before piped_done in
-    subst (λ (w : Written). (depth : ℕ) × SpellsQuery (lexemes_of text tokens) w depth × (depth ≤ 100) × (length w.commands ≤ 200)) same (s.deepest, whole.2, deep, count)
+    subst (λ (w : Written). (depth : ℕ) × SpellsQuery (lexemes_of text tokens) w depth × (depth ≤ 100) × (length w.commands ≤ 200)) same (s.progress.deepest, whole.2, deep, count)
 
 take_one_more : (tokens : List Token) (place : ℕ) (token d : Token) → place < length tokens → token ≡ get_or tokens place d → take (place + 1) tokens ≡ take place tokens ++ token ∷ []
 take_one_more tokens place token d within is =
     let next : place + 1 ≡ suc place = omega arith in
     ap (λ n. take n tokens) next ∙ take-suc tokens place d within ∙ ap (λ (t : Token). take place tokens ++ t ∷ []) (sym is)
 
--- a token that goes on leads to the next state
+-- a token with which the query continues leads to the next state
 pub reaches_next : (text : List ℕ) (tokens : List Token) (place : ℕ) (token d : Token) (s next : State) → place < length tokens → token ≡ get_or tokens place d
-    → Reaches text tokens place s → GoesOn s (lexeme_of text token) next → Reaches text tokens (place + 1) next
+    → Reaches text tokens place s → Continues s (lexeme_of text token) next → Reaches text tokens (place + 1) next
 reaches_next text tokens place token d s next within is reaches goes =
     let v = lexemes_of text (take place tokens) in
     let more : lexemes_of text (take (place + 1) tokens) ≡ v ++ lexeme_of text token ∷ [] =

@@ -38,7 +38,7 @@ take_with v rest x = take-append-add v (x ∷ rest) 1
 place_within : (v rest : List Lexeme) (x : Lexeme) → length v < length (v ++ x ∷ rest)
 place_within v rest x = let n = length-append v (x ∷ rest) in omega arith
 
--- no query within the limits goes on with the lexeme, where the state after it, if there is one, leaves them
+-- no query within the limits continues with the lexeme, where the state after it, if there is one, leaves them
 breaks : (limit most : ℕ) (v rest : List Lexeme) (x : Lexeme) (s : State) → walk v start ≡ Some s → need s ≤ limit → pipes s ≤ most
     → ((r : State) → walk (v ++ x ∷ []) start ≡ Some r → need r ≤ limit → pipes r ≤ most → ⊥) → Breaks limit most (v ++ x ∷ rest) (length v)
 breaks limit most v rest x s e h c out = record {

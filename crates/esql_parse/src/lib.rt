@@ -13,4 +13,4 @@ mod written;
 pub use error::ParseError;
 pub use laws::{no_refusal, one_query, one_refusal};
 pub use reading::parse;
-pub use state::{State, Written};
+pub use state::{Inside, Progress, State, Written};

@@ -7,14 +7,13 @@ ghost use Rattle.esql_ast.specs.Laws.{IsNumbered};
 ghost use Rattle.esql_parse.specs.declared.error.ParseError.{ParseError};
 ghost use Rattle.esql_lex.specs.Tokens.{FitsText};
 ghost use Rattle.esql_parse.specs.Grammar.{SpellsQuery};
-ghost use Rattle.esql_parse.specs.Limits.{GoesOn, Leaves, written_of};
+ghost use Rattle.esql_parse.specs.Limits.{Continues, Leaves, written_of};
 ghost use Rattle.esql_parse.specs.Machine.{need};
 ghost use Rattle.esql_parse.specs.Spells.{Spells, lexemes_of, IsWantOfMemory, Refuses, IsQueryOrMemory, IsRefusalOrMemory, NamesToken};
 ghost use Rattle.esql_parse.specs.WithinLimits.{IsWithinLimits};
 
-use crate::{ParseError, State, Written};
+use crate::{Inside, ParseError, State, Written};
 use esql_ast::{Query, numbered_query, numbering_keeps_depth, numbers_in_order};
-use esql_commands::Inside;
 use esql_lex::Token;
 use esql_phrases::{Lexeme, lexeme_of};
 use esql_types::Seq;
@@ -23,7 +22,7 @@ use std::alloc::Global;
 // A step within the limits, or why there is none.
 fn advance(alloc: Global, state: State, next: Lexeme, token: u32) -> Result<State, ParseError>
     requires { need state ≤ 100 }
-    ensures { MatchResult result (GoesOn state next) (λ error. IsWantOfMemory error ⊎ Leaves state next token error) }
+    ensures { MatchResult result (Continues state next) (λ error. IsWantOfMemory error ⊎ Leaves state next token error) }
 {
     match state.step(alloc, next)? {
         None => Err(ParseError::Unexpected { token }),
@@ -43,8 +42,8 @@ fn written_of(state: State) -> Option<Written>
     ensures { result ≡ written_of state }
 {
     match state.inside {
-        Inside::Done => state.before,
-        _ => None,
+        Inside::Done => state.progress.before,
+        Inside::Begin | Inside::Open { .. } | Inside::At(_) => None,
     }
 }
 

@@ -1,7 +1,6 @@
 -- What is known of an expression that is well formed.
-use Rattle.std.proofs.Common.{◌≡◌, ℕ, ◌+◌, ◌≤◌, nat_le, length, arith, Bool, true, false, ◌&&◌, List, [], ◌∷◌, map, All, Option, Some, None, option_map, slice_get, refl, ap, sym, ◌∙◌}
+use Rattle.std.proofs.Common.{◌≡◌, ℕ, ◌+◌, ◌≤◌, nat_le, length, arith, true, ◌&&◌, List, [], ◌∷◌, map, All, Option, Some, None, option_map, slice_get, refl, ap, sym, ◌∙◌}
 use Rattle.std.specs.List.{list_all}
-use Rattle.std.specs.Str.{bytes_eq}
 use Rattle.std.proofs.lemmas.Bool.{and_parts}
 use Rattle.std.proofs.lemmas.Bool.Decides.{nat_tests}
 use Rattle.std.proofs.lemmas.Slice.Eq.{bytes_eq-Decides}
@@ -12,14 +11,13 @@ use Rattle.esql_types.specs.declared.value.Kind.{Kind}
 use Rattle.function_rules.specs.Found.{wrapped}
 use Rattle.esql_plan.specs.declared.function.Function.{Function}
 use Rattle.esql_plan.specs.declared.typed.TypedExpr.{TypedExpr}
-use Rattle.esql_plan.specs.declared.typed.TypedForm.{TypedForm}
 use Rattle.esql_plan.specs.declared.typed.TypedForm.TheVariants.{Apply}
 use Rattle.esql_plan.specs.declared.function.Function.TheVariants.{Rlike, NotRlike, Replace}
 use Rattle.esql_plan.specs.Signatures.{Want, Parameters, these, a_keyword, whole_pattern, free_pattern, signature_of, least_count, most_count, is_at_most, is_count, wants_of, result_kind}
 use Rattle.esql_plan.specs.Values.{NumberedRow, silent, value_of_typed}
 use Rattle.esql_plan.specs.Fits.{Part, ExprFits, part_of, call_fits, literal_in, text_in, is_pattern, same_text, is_result, literals_fit, number_fits}
 use Rattle.esql_plan.proofs.TypedFolds.{part_of_constant, part_of_column, part_of_call, value_of_constant}
-use Rattle.esql_plan.proofs.Inductions.{Cases, typed_ind}
+use Rattle.esql_plan.proofs.Inductions.{typed_ind}
 
 -- a function of parts is well formed
 pub record CallFits (whole free : List (List ℕ)) (expr : TypedExpr) (function : Function) (args : List TypedExpr) (pattern : Option ℕ) : Type 0 where

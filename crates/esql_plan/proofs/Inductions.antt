@@ -1,5 +1,5 @@
 -- Induction on typed expressions.
-use Rattle.std.proofs.Common.{◌≡◌, ℕ, List, [], ◌∷◌, map, All, Option, refl, sym, subst}
+use Rattle.std.proofs.Common.{ℕ, List, [], ◌∷◌, map, All, Option, subst}
 use Rattle.std.proofs.lemmas.List.Elements.{All-nil, All-cons}
 use denote.Hole.Holds.{Such}
 use Rattle.esql_types.specs.declared.value.Value.{Value}

@@ -1,18 +1,13 @@
 -- What functions give.
-use Rattle.std.proofs.Common.{◌≡◌, ℕ, Bool, true, false, List, [], ◌∷◌, ◌++◌, map, Option, Some, None, refl, ap, sym, ◌∙◌, if◌then◌else◌}
-use Rattle.std.specs.List.{flat_map}
+use Rattle.std.proofs.Common.{◌≡◌, Bool, true, false, List, [], ◌∷◌, ◌++◌, map, Some, refl, ap, sym, ◌∙◌, if◌then◌else◌}
 use Rattle.std.proofs.lemmas.List.{append-nil, append_assoc}
 use Rattle.esql_types.specs.declared.value.Value.{Value}
 use Rattle.esql_types.specs.declared.value.Value.TheVariants.{Bool as Boolean}
-use Rattle.esql_types.specs.declared.cause.Failure.{Failure}
 use Rattle.esql_types.specs.declared.cause.Cause.TheVariants.{Multi}
 use Rattle.esql_types.specs.declared.names.NodeId.{NodeId}
-use Rattle.esql_plan.specs.declared.function.Function.{Function}
 use Rattle.esql_plan.specs.declared.function.Function.TheVariants.{And}
 use Rattle.esql_plan.specs.Rules.{Rule, singles, each, list_and_singles, lists, tests, logic, membership, conditions, alternatives, Given, given_one, given_nothing, failed, with_argument, given_each, given_list, given_lists, given_logic, given_membership, first_cell, later_cells, Arguments, are, null, several, arguments_of, given_singles, given_arguments, multi_of, truth_in, is_null}
-use Rattle.esql_plan.specs.Functions.{rule_of}
 use Rattle.esql_plan.specs.Values.{Valued, silent, behind, failures_at, cells_of, applied, applied_by, case_of, coalesce_of, is_met}
-use Rattle.esql_plan.proofs.TypedFolds.{map_map}
 
 abbrev ones : List Value → List (List Value)
 ones values = map (λ value. value ∷ []) values

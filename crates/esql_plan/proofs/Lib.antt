@@ -3,3 +3,4 @@ pub mod Inductions
 pub mod Fitting
 pub mod Lawful
 pub mod Entries
+pub mod KindsGiven

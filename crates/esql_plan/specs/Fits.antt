@@ -1,6 +1,6 @@
 -- When a typed expression is well formed for patterns, which are seen as two lists of texts: the wrapped texts of those that are
 -- matched against whole texts, and the texts of those that are searched for in a text.
-use Rattle.std.specs.Prelude.{◌≡◌, ℕ, Bool, true, false, ◌&&◌, List, [], ◌∷◌, map, length, All, Option, Some, None, is_some, is_none, option_map, slice_get}
+use Rattle.std.specs.Prelude.{◌≡◌, ℕ, Bool, true, false, ◌&&◌, List, [], ◌∷◌, map, length, All, Option, Some, None, is_some, option_map, slice_get}
 use Rattle.std.specs.List.{list_all, list_any, flat_map}
 use Rattle.std.specs.Str.{bytes_eq}
 use Rattle.esql_types.specs.declared.names.ColId.{ColId}
@@ -11,7 +11,7 @@ use Rattle.esql_types.specs.Values.{kind_of_value}
 use Rattle.function_rules.specs.Found.{wrapped}
 use Rattle.esql_plan.specs.declared.function.Function.{Function}
 use Rattle.esql_plan.specs.declared.typed.TypedExpr.{TypedExpr}
-use Rattle.esql_plan.specs.declared.typed.TypedForm.TheOpen.{TypedExpr-F, TypedForm-F, Constant, Column, Apply}
+use Rattle.esql_plan.specs.declared.typed.TypedForm.TheOpen.{TypedForm-F, Constant, Column, Apply}
 use Rattle.esql_plan.specs.declared.typed.TypedForm.TheFolds.{fold-TypedExpr}
 use Rattle.esql_plan.specs.Signatures.{Want, a_boolean, a_keyword, a_number, a_value, an_ordered, like_pattern, whole_pattern, free_pattern, signature_of, is_count, wants_of, same_kind, result_kind}
 use Rattle.esql_plan.specs.Values.{NumberedRow}

@@ -28,7 +28,7 @@ use Rattle.function_rules.specs.Texts.{length_of, substring_from, substring_of, 
 use Rattle.function_rules.specs.Wildcards.{is_like}
 use Rattle.esql_plan.specs.declared.function.Function.{Function}
 use Rattle.esql_plan.specs.declared.function.Function.TheVariants as function
-use Rattle.esql_plan.specs.Rules.{Rule, singles, each, list_and_singles, lists, tests, logic, membership, conditions, alternatives, Given, given, given_one, given_nothing, failed, number_of, text_of, truth_of, is_integer, order_of, is_null}
+use Rattle.esql_plan.specs.Rules.{Rule, singles, each, list_and_singles, lists, tests, logic, membership, conditions, alternatives, Given, given, given_one, given_nothing, failed, number_of, text_of, is_integer, order_of, is_null}
 
 -- Rules of so many arguments. No call that fits has another number of them, and of one that has nothing is given.
 

@@ -1,15 +1,17 @@
 //! Laws of what functions give.
 
-ghost use Rattle.std.specs.Prelude.{◌≡◌, ℕ, true, false, List, [], ◌∷◌, ◌++◌, map, Some, None};
+ghost use Rattle.std.specs.Prelude.{◌≡◌, true, false, List, [], ◌∷◌, ◌++◌, map, Some};
+ghost use Rattle.esql_types.specs.declared.value.Kind.{Kind};
 ghost use Rattle.esql_types.specs.declared.value.Value.{Value};
 ghost use Rattle.esql_types.specs.declared.cause.Failure.{Failure};
 ghost use Rattle.esql_types.specs.declared.cause.Cause.TheVariants.{Multi};
 ghost use Rattle.esql_types.specs.declared.names.NodeId.{NodeId};
 ghost use Rattle.esql_plan.specs.declared.function.Function.{Function};
 ghost use Rattle.esql_plan.specs.declared.function.Function.TheVariants.{And, Case, Coalesce};
-ghost use Rattle.esql_plan.specs.Rules.{singles, Given, given_nothing, failed, given_singles, multi_of, truth_in};
-ghost use Rattle.esql_plan.specs.Functions.{rule_of};
+ghost use Rattle.esql_plan.specs.Rules.{Given, given_nothing, failed, given_singles, multi_of, truth_in};
 ghost use Rattle.esql_plan.specs.Values.{Valued, silent, behind, failures_at, cells_of, applied};
+ghost use Rattle.esql_plan.specs.Signatures.{always, signature_of};
+ghost use Rattle.esql_plan.specs.Fits.{has_kind};
 
 /// A law: a function of single values gives, of arguments with one value each, what its rule gives of the values.
 pub fn single_arguments()
@@ -58,4 +60,10 @@ pub fn coalesce_takes_the_first()
 pub fn cells_alone_count()
     ensures { (function : Function) (node : NodeId) (parts : List Valued) →
         (applied function node parts).cell ≡ (applied function node (map silent (cells_of parts))).cell }
+{}
+
+/// A law: a function whose result always has one kind gives cells of that kind, whatever its arguments are.
+pub fn results_have_their_kind()
+    ensures { (function : Function) (kind : Kind) → (signature_of function).gives ≡ always kind →
+        (node : NodeId) (parts : List Valued) → has_kind kind (applied function node parts).cell ≡ true }
 {}

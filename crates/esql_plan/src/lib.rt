@@ -18,7 +18,8 @@ pub use facts::{Facts, NamedFacts, Statistics, TableStats};
 pub use function::{AggFunction, Function};
 pub use laws::{
     and_evaluates_both_sides, case_passes_the_false, case_takes_the_first_true, cells_alone_count,
-    coalesce_takes_the_first, null_decides, several_values_decide, single_arguments,
+    coalesce_takes_the_first, null_decides, results_have_their_kind, several_values_decide,
+    single_arguments,
 };
 pub use names::{FunctionRow, cast_function, find_aggregate, find_function};
 pub use plan::{OutColumn, Plan, PlanSource, ScanColumn};

@@ -1,5 +1,5 @@
 -- A slice is a part of its list.
-use Rattle.std.proofs.Common.{◌≡◌, ℕ, zero, suc, ◌+◌, ◌-◌, ◌<◌, ◌≤◌, Bool, true, false, List, [], ◌∷◌, ◌++◌, length, take, drop, refl, sym, ap, ◌∙◌, arith, ℤ, pos, negsuc}
+use Rattle.std.proofs.Common.{◌≡◌, ℕ, suc, ◌+◌, ◌-◌, ◌<◌, List, [], ◌∷◌, ◌++◌, length, take, drop, refl, sym, ap, ◌∙◌, arith, ℤ, pos, negsuc}
 use Rattle.std.proofs.lemmas.List.{append-nil, take-append-drop, take_all}
 use borrow.Author.Tests.{lt-ltb}
 use Rattle.function_rules.specs.Lists.{between_places, first_place, place_of, slice_of}

@@ -6,7 +6,8 @@ use Rattle.std.proofs.lemmas.Str.{chars-nil, encodes-chars}
 use Rattle.std.proofs.lemmas.List.{append_assoc, length-append, nil_from_length}
 use Rattle.function_rules.specs.Wildcards.{Wildcard, any_run, any_one, itself, stands_for}
 use Rattle.function_rules.proofs.Tails.{nothing_left}
-use Rattle.text_match.specs.Fronts.{stand_for_end, NoEnd, SameEnds, have_no_run, Stood}
+use Rattle.text_match.specs.Fronts.{wildcard_in, stand_for_end, NoEnd, SameEnds, have_no_run, Stood}
+use Rattle.text_match.specs.declared.parts.Part.{Part}
 use Rattle.text_match.proofs.Runs.{behind_fixed, first_suffices}
 
 no_run_then : (fixed : List Wildcard) (part : Wildcard) → have_no_run fixed ≡ true → have_no_run (part ∷ []) ≡ true →
@@ -63,6 +64,15 @@ module _ (parts : List Wildcard) (characters : List ℕ) where
       let parts_length = ap length stood.parts_are ∙ length-append stood.fixed (any_run ∷ ps) in
       let characters_length = ap length stood.characters_are ∙ length-append stood.taken cs in
       omega (arith, parts_length, characters_length)
+
+-- the next part, where it is known which one it is
+pub next_is : (parts rest : List Wildcard) (part known : Part) → parts ≡ wildcard_in part ∷ rest → part ≡ known → parts ≡ wildcard_in known ∷ rest
+next_is parts rest part known e same = e ∙ ap (λ first. wildcard_in first ∷ rest) same
+
+pub from_place : (parts rest : List Wildcard) (part : Wildcard) (characters others : List ℕ) → parts ≡ part ∷ rest →
+    SameEnds part characters others → stand_for_end parts characters ≡ stand_for_end parts others
+from_place parts rest part characters others e same =
+    ap (λ all. stand_for_end all characters) e ∙ same rest ∙ ap (λ all. stand_for_end all others) (sym e)
 
 -- behind a run, an empty pattern
 pub none_behind : (parts : List Wildcard) (characters : List ℕ) → parts ≡ [] → stand_for_end parts characters ≡ true

@@ -3,7 +3,7 @@ use Rattle.std.proofs.lemmas.Result.{err_from_is_err_and}
 use Rattle.esql_lex.specs.declared.token.Token.{Token}
 use Rattle.esql_lex.specs.declared.token.TokenKind.TheVariants.{Name}
 use Rattle.esql_parse.specs.declared.error.ParseError.{ParseError}
-use Rattle.esql_parse.specs.Limits.{GoesOn, Leaves}
+use Rattle.esql_parse.specs.Limits.{Continues, Leaves}
 use Rattle.esql_parse.specs.Spells.{IsWantOfMemory, Refuses}
 use Rattle.esql_parse.proofs.Readings.{refused_at, reaches_next, reaches_all, read_whole, read_answer}
 use Rattle.esql_parse.proofs.reading.read.Goals as goal
@@ -31,7 +31,7 @@ loop-place-preserved c =
     let tokens : List Token = c.args.tokens.now in
     let place = c.loop-place.place in
     reaches_next text tokens place (get_or tokens place no_token) no_token c.loop-place.state c.in_ok-state.state c.loop-place-test.true refl c.loop-place.invariant
-    (subst (λ x. GoesOn c.loop-place.state x c.in_ok-state.state) c.in_ok-lexeme.ensures c.in_ok-state.ensures)
+    (subst (λ x. Continues c.loop-place.state x c.in_ok-state.state) c.in_ok-lexeme.ensures c.in_ok-state.ensures)
 
 pub unreachable-requires : goal.unreachable-requires
 unreachable-requires c =

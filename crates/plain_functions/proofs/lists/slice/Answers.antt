@@ -1,8 +1,7 @@
-use Rattle.std.proofs.Common.{◌≡◌, ◌+◌, List, length, take, drop, rules, refl, sym, ap, ◌∙◌}
+use Rattle.std.proofs.Common.{◌≡◌, ◌+◌, take, drop, rules, refl, sym, ap, ◌∙◌}
 use mir.Syntax.{w64}
 use mir.Val.{SFits}
 use Rattle.std.proofs.lemmas.Int.{to_z-of_z}
-use Rattle.esql_types.specs.declared.value.Value.{Value}
 use Rattle.function_rules.specs.Lists.{first_place}
 use Rattle.plain_functions.proofs.ValueLists.{back_read, end_read, front_read, slice_found, start_read}
 use Rattle.plain_functions.proofs.lists.slice.Goals as goal

@@ -1,4 +1,4 @@
-use Rattle.std.proofs.Common.{◌≡◌, List, rules, subst, sym}
+use Rattle.std.proofs.Common.{◌≡◌, List, rules, subst}
 use Rattle.std.specs.List.Sorted.{IsPermutation, IsSorted}
 use Rattle.std.specs.Ordering.{is_lt}
 use Rattle.std.specs.Prelude.{IfOk}

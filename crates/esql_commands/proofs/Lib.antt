@@ -1,0 +1,16 @@
+pub mod AfterExpressions
+pub mod AfterPoints
+pub mod Columns
+pub mod Commands
+pub mod Completes
+pub mod Depths
+pub mod Ends
+pub mod Fits
+pub mod Items
+pub mod Lists
+pub mod Names
+pub mod Reached
+pub mod Sizes
+pub mod Sound
+pub mod Stops
+pub mod Walks
