@@ -1,9 +1,11 @@
 -- What FROM with one table is answered with, from what its two calls tell.
-use Rattle.std.proofs.Common.{◌≡◌, ◌≢◌, ℕ, ◌≤◌, ◌<◌, List, [], ◌∷◌, ◌++◌, length, map, All, Some, None, IfSome, Result, Ok, Err, OnOk, IfOk, inr, refl, sym, ap, subst, ◌∙◌, arith}
+use Rattle.std.proofs.Common.{◌≡◌, ◌≢◌, ℕ, ◌≤◌, ◌<◌, List, [], ◌∷◌, ◌++◌, length, map, All, Some, Result, Ok, Err, IfOk, refl, sym, ap, subst, ◌∙◌, arith}
 use Rattle.std.proofs.lemmas.List.{length-map, get_or-map}
-use Rattle.std.proofs.lemmas.List.Elements.{All-nil, All-head, All-contains, All-contains_itself}
-use Rattle.std.specs.List.{Contains, AllZip}
+use Rattle.std.proofs.lemmas.List.Elements.{All-nil, All-head, All-contains}
+use Rattle.std.specs.List.{AllZip}
 use Rattle.esql_io.specs.Files.{Held}
+use Rattle.esql_io.specs.Calls.{NoneFailed, OneFailed}
+use Rattle.esql_io.proofs.Calls.{none_then, one_then}
 use Rattle.esql_types.specs.declared.places.Span.{Span}
 use Rattle.esql_types.specs.declared.names.Column.{Column}
 use Rattle.esql_types.specs.declared.value.Value.{Value}
@@ -22,14 +24,16 @@ use Rattle.ndjson_load.specs.declared.column.MappedColumn.{MappedColumn}
 use Rattle.table_files.specs.declared.stop.Stop.{Stop}
 use Rattle.table_files.specs.declared.stop.Stop.TheVariants.{UnknownTable, BadData, ReadFault as StoppedByFault, Memory as StoppedByMemory}
 use Rattle.table_files.specs.declared.stop.TableSource.{TableSource}
-use Rattle.table_files.specs.Catalog.{BytesOf, Rows, Halt, unknown, bad, Gathers, Loads}
-use Rattle.table_files.specs.Shapes.{IsTableOf}
-use Rattle.table_files.specs.Stops.{Says, IfTold, IfReadFault, IfUnknownTable, IsFileOf, IsRowFileOf, IsSpanOf, IsSourceSpan, name_of}
+use Rattle.table_files.specs.Asked.{AskedToLoad}
+use Rattle.table_files.specs.Catalog.{Rows, Halt, unknown, bad, Gathers, Loads}
+use Rattle.table_files.specs.Shapes.{IsTableOf, entries_of}
+use Rattle.table_files.specs.Stops.{CalledToStop, Says, IfUnknownTable, IsSpanOf, IsSourceSpan, name_of}
 use Rattle.answer_text.specs.Messages.{no_columns}
 use Rattle.esql_run.specs.Bytes.{Outcome, refused}
-use Rattle.esql_run.specs.From.{columns_of, rows_of, halted, shown, AnswersFrom, IsFromOutcome, not_found, without_columns, not_loaded, loaded}
+use Rattle.esql_run.specs.From.{columns_of, rows_of, halted, shown, AnswersFrom, AskedByFrom, to_load, IsFromOutcome, not_found, without_columns, not_loaded, loaded}
 use Rattle.esql_run.specs.Made.{outcome_made}
-use Rattle.esql_run.specs.Stopped.{IfFault, IsStopped, StopFits}
+use Rattle.esql_run.specs.Stopped.{CalledToAnswer, IsStopped, StopFits}
+use Rattle.esql_run.proofs.OneContent.{settled}
 use Rattle.esql_run.specs.declared.rendered.Rendered.{Rendered}
 use Rattle.esql_run.specs.declared.rendered.Unanswered.{Unanswered}
 use Rattle.esql_run.specs.declared.rendered.Unanswered.TheVariants.{ReadFault, Memory}
@@ -53,59 +57,70 @@ stop_answers text (BadData message) answer P is said = subst P (sym is) said
 stop_answers text (StoppedByFault file) answer P is said = absurd is
 stop_answers text (StoppedByMemory error) answer P is said = absurd is
 
-not_found_by : (held : BytesOf) (text : List ℕ) (span : Span) (names : List NameAt) (stop : Stop) → Says (Gathers held 0 names) (no_sources_by stop) → Halts stop (λ halt. IsFromOutcome held text span names (halted text halt))
+not_found_by : (held : Held) (text : List ℕ) (span : Span) (names : List NameAt) (stop : Stop) → Says (Gathers held 0 names) (no_sources_by stop) → Halts stop (λ halt. IsFromOutcome held text span names (halted text halt))
 not_found_by held text span names (UnknownTable place) told = not_found (unknown place) told
 not_found_by held text span names (BadData message) told = not_found (bad message) told
 not_found_by held text span names (StoppedByFault file) told = tt
 not_found_by held text span names (StoppedByMemory error) told = tt
 
-pub gather_halted : (text : List ℕ) (held : Held) (span : Span) (names : List NameAt) (stop : Stop) (result : Result Rendered Unanswered)
-    → IfSome held (λ bytes_of. Says (Gathers bytes_of 0 names) (no_sources_by stop)) → IsStopped text stop result → IfOk result (λ answer. AnswersFrom text held span names (outcome_made answer))
-gather_halted text None span names stop (Ok answer) told is = tt
-gather_halted text (Some held) span names stop (Ok answer) told is = stop_answers text stop answer (IsFromOutcome held text span names) is (not_found_by held text span names stop told)
-gather_halted text held span names stop (Err error) told is = tt
+pub gather_halted : (text : List ℕ) (held : Held) (span : Span) (names : List NameAt) (stop : Stop) (result : Result Rendered Unanswered) → length names ≡ 1
+    → Says (Gathers held 0 names) (no_sources_by stop) → IsStopped text stop result → IfOk result (λ answer. AnswersFrom text held span names (outcome_made answer))
+gather_halted text held span names stop (Ok answer) one told is =
+    settled text held span names (outcome_made answer) one (stop_answers text stop answer (IsFromOutcome held text span names) is (not_found_by held text span names stop told))
+gather_halted text held span names stop (Err error) one told is = tt
 
-not_loaded_by : (held : BytesOf) (text : List ℕ) (span : Span) (names : List NameAt) (sources : List TableSource) (stop : Stop) → Gathers held 0 names (Ok sources) → columns_of sources ≢ []
+not_loaded_by : (held : Held) (text : List ℕ) (span : Span) (names : List NameAt) (sources : List TableSource) (stop : Stop) → Gathers held 0 names (Ok sources) → columns_of sources ≢ []
     → Says (Loads held sources) (no_tables_by stop) → Halts stop (λ halt. IsFromOutcome held text span names (halted text halt))
 not_loaded_by held text span names sources (UnknownTable place) gathers some told = not_loaded sources (unknown place) gathers some told
 not_loaded_by held text span names sources (BadData message) gathers some told = not_loaded sources (bad message) gathers some told
 not_loaded_by held text span names sources (StoppedByFault file) gathers some told = tt
 not_loaded_by held text span names sources (StoppedByMemory error) gathers some told = tt
 
-told_halted : (text : List ℕ) (held : Held) (span : Span) (names : List NameAt) (sources : List TableSource) (stop : Stop) (result : Result Rendered Unanswered)
-    → IfSome held (λ bytes_of. Gathers bytes_of 0 names (Ok sources)) → columns_of sources ≢ [] → IfSome held (λ bytes_of. Says (Loads bytes_of sources) (no_tables_by stop)) → IsStopped text stop result
-    → IfOk result (λ answer. AnswersFrom text held span names (outcome_made answer))
-told_halted text None span names sources stop (Ok answer) gathers some told is = tt
-told_halted text (Some held) span names sources stop (Ok answer) gathers some told is =
-    stop_answers text stop answer (IsFromOutcome held text span names) is (not_loaded_by held text span names sources stop gathers some told)
-told_halted text held span names sources stop (Err error) gathers some told is = tt
-
 -- what is told after the tables were found is told of the same files
-pub load_halted : (text : List ℕ) (held after : Held) (span : Span) (names : List NameAt) (sources given : List TableSource) (stop : Stop) (result : Result Rendered Unanswered) → after ≡ held → given ≡ sources
-    → IfSome held (λ bytes_of. Gathers bytes_of 0 names (Ok sources)) → columns_of sources ≢ [] → IfSome after (λ bytes_of. Says (Loads bytes_of given) (no_tables_by stop)) → IsStopped text stop result
+pub load_halted : (text : List ℕ) (held after : Held) (span : Span) (names : List NameAt) (sources given : List TableSource) (stop : Stop) (result : Result Rendered Unanswered) → length names ≡ 1 → after ≡ held → given ≡ sources
+    → Gathers held 0 names (Ok sources) → columns_of sources ≢ [] → Says (Loads after given) (no_tables_by stop) → IsStopped text stop result
     → IfOk result (λ answer. AnswersFrom text held span names (outcome_made answer))
-load_halted text held after span names sources given stop result same are gathers some told is =
-    told_halted text held span names sources stop result gathers some
-    (subst (λ (h : Held). IfSome h (λ bytes_of. Says (Loads bytes_of sources) (no_tables_by stop))) same
-    (subst (λ (ss : List TableSource). IfSome after (λ bytes_of. Says (Loads bytes_of ss) (no_tables_by stop))) are told)) is
+load_halted text held after span names sources given stop (Ok answer) one same are gathers some told is =
+    settled text held span names (outcome_made answer) one
+    (stop_answers text stop answer (IsFromOutcome held text span names) is (not_loaded_by held text span names sources stop gathers some
+    (subst (λ (h : Held). Says (Loads h sources) (no_tables_by stop)) same (subst (λ (ss : List TableSource). Says (Loads after ss) (no_tables_by stop)) are told))))
+load_halted text held after span names sources given stop (Err error) one same are gathers some told is = tt
 
-pub no_column : (text : List ℕ) (held : Held) (span : Span) (names : List NameAt) (sources : List TableSource) (outcome : Outcome)
-    → IfSome held (λ bytes_of. Gathers bytes_of 0 names (Ok sources)) → columns_of sources ≡ [] → outcome ≡ refused text span.from no_columns → AnswersFrom text held span names outcome
-no_column text None span names sources outcome gathers none is = tt
-no_column text (Some held) span names sources outcome gathers none is = subst (IsFromOutcome held text span names) (sym is) (without_columns sources gathers none)
+pub no_column : (text : List ℕ) (held : Held) (span : Span) (names : List NameAt) (sources : List TableSource) (outcome : Outcome) → length names ≡ 1
+    → Gathers held 0 names (Ok sources) → columns_of sources ≡ [] → outcome ≡ refused text span.from no_columns → AnswersFrom text held span names outcome
+no_column text held span names sources outcome one gathers none is =
+    settled text held span names outcome one (subst (IsFromOutcome held text span names) (sym is) (without_columns sources gathers none))
 
-told_loaded : (text : List ℕ) (held : Held) (span : Span) (names : List NameAt) (sources : List TableSource) (tables : List Rows) (outcome : Outcome)
-    → IfSome held (λ bytes_of. Gathers bytes_of 0 names (Ok sources)) → columns_of sources ≢ [] → IfSome held (λ bytes_of. Loads bytes_of sources (Ok tables))
+pub all_loaded : (text : List ℕ) (held after : Held) (span : Span) (names : List NameAt) (sources given : List TableSource) (tables : List Rows) (outcome : Outcome) → length names ≡ 1 → after ≡ held → given ≡ sources
+    → Gathers held 0 names (Ok sources) → columns_of sources ≢ [] → Loads after given (Ok tables)
     → outcome ≡ shown (columns_of sources) (rows_of tables) → AnswersFrom text held span names outcome
-told_loaded text None span names sources tables outcome gathers some loads is = tt
-told_loaded text (Some held) span names sources tables outcome gathers some loads is = subst (IsFromOutcome held text span names) (sym is) (loaded sources tables gathers some loads)
+all_loaded text held after span names sources given tables outcome one same are gathers some loads is =
+    settled text held span names outcome one (subst (IsFromOutcome held text span names) (sym is)
+    (loaded sources tables gathers some (subst (λ (h : Held). Loads h sources (Ok tables)) same (subst (λ (ss : List TableSource). Loads after ss (Ok tables)) are loads))))
 
-pub all_loaded : (text : List ℕ) (held after : Held) (span : Span) (names : List NameAt) (sources given : List TableSource) (tables : List Rows) (outcome : Outcome) → after ≡ held → given ≡ sources
-    → IfSome held (λ bytes_of. Gathers bytes_of 0 names (Ok sources)) → columns_of sources ≢ [] → IfSome after (λ bytes_of. Loads bytes_of given (Ok tables))
-    → outcome ≡ shown (columns_of sources) (rows_of tables) → AnswersFrom text held span names outcome
-all_loaded text held after span names sources given tables outcome same are gathers some loads is =
-    told_loaded text held span names sources tables outcome gathers some
-    (subst (λ (h : Held). IfSome h (λ bytes_of. Loads bytes_of sources (Ok tables))) same (subst (λ (ss : List TableSource). IfSome after (λ bytes_of. Loads bytes_of ss (Ok tables))) are loads)) is
+-- ---- the files that are asked for
+
+-- a stop is answered where the calls before it did not fail
+pub called_stop : {Files : Type 0} {holds : Files → Held} {faults : Files → ℕ} {failed : Files → List ℕ} (P Q : List ℕ → Type 0) (text : List ℕ) (stop : Stop) (result : Result Rendered Unanswered) (old now new : Files)
+    → NoneFailed holds faults failed old now → ((file : List ℕ) → P file → Q file) → IsStopped text stop result → CalledToStop holds faults failed P stop now new
+    → CalledToAnswer holds faults failed Q result old new
+called_stop P Q text (UnknownTable span) (Ok answer) old now new before asks is called = none_then before called
+called_stop P Q text (BadData message) (Ok answer) old now new before asks is called = none_then before called
+called_stop P Q text (StoppedByFault file) (Ok answer) old now new before asks is called = absurd is
+called_stop P Q text (StoppedByMemory error) (Ok answer) old now new before asks is called = absurd is
+called_stop {Files} {holds} {faults} {failed} P Q text (StoppedByFault file) (Err (ReadFault named)) old now new before asks is (asked, called) =
+    (subst Q (sym is) (asks file asked), subst (λ (f : List ℕ). OneFailed holds faults failed (Some f) old new) (sym is) (one_then before called))
+called_stop P Q text (UnknownTable span) (Err (ReadFault named)) old now new before asks is called = absurd is
+called_stop P Q text (BadData message) (Err (ReadFault named)) old now new before asks is called = absurd is
+called_stop P Q text (StoppedByMemory error) (Err (ReadFault named)) old now new before asks is called = absurd is
+called_stop P Q text stop (Err (Memory error)) old now new before asks is called = tt
+
+pub asks_rows : (held after : Held) (names : List NameAt) (sources given : List TableSource) → after ≡ held → given ≡ sources → Gathers held 0 names (Ok sources) → columns_of sources ≢ []
+    → (file : List ℕ) → AskedToLoad after given file → AskedByFrom held names file
+asks_rows held after names sources given same are gathers some file asked =
+    to_load sources file gathers some (subst (λ (h : Held). AskedToLoad h sources file) same (subst (λ (ss : List TableSource). AskedToLoad after ss file) are asked))
+
+-- ---- columns and rows
 
 none_long : {X : Type 0} (xs : List X) → length xs ≡ 0 → xs ≡ []
 none_long [] none = refl
@@ -125,10 +140,10 @@ wide_rows [] (rows ∷ tables) all = absurd all
 wide_rows (source ∷ sources) [] all = absurd all
 wide_rows (source ∷ sources) (rows ∷ tables) all = λ k d within. all.0.wide k d within ∙ sym (length-map source.columns (λ (mapped : MappedColumn). mapped.column))
 
-pub few_columns : (sources : List TableSource) → All (λ (source : TableSource). length source.columns ≤ 100000) sources → length (columns_of sources) ≤ 100000
+pub few_columns : (sources : List TableSource) → entries_of sources ≤ 100000 → length (columns_of sources) ≤ 100000
 few_columns [] few = omega arith
 few_columns (source ∷ sources) few =
-    subst (λ (n : ℕ). n ≤ 100000) (sym (length-map source.columns (λ (mapped : MappedColumn). mapped.column))) (All-head (λ (s : TableSource). length s.columns ≤ 100000) source sources few)
+    subst (λ (n : ℕ). n ≤ 100000) (sym (length-map source.columns (λ (mapped : MappedColumn). mapped.column))) (omega arith)
 
 -- where the names fit the text, a stop at one of them does
 pub name_fits : (text : List ℕ) (names : List NameAt) (stop : Stop) → All (λ (name : NameAt). SpanFits text name.span) names → IfUnknownTable (no_sources_by stop) (IsSpanOf names) → StopFits text stop
@@ -169,35 +184,3 @@ pub from_fits : (text : List ℕ) (query : Query) (node : NodeId) (span : Span) 
 from_fits text query node span tables is fits =
     let P : NodeAt → Type 0 = λ place. SpanFits text place.span in
     All-head P (record { node = node; span = span }) [] (All-front P (nodes_of_source (Tables node span tables)) _ (subst (λ (source : SourceCommand). All P (nodes_of_source source ++ flat_map nodes_of_command query.commands)) is fits.nodes))
-
-contains_map : (sources : List TableSource) (source : TableSource) → Contains sources source → Contains (map name_of sources) (name_of source)
-contains_map sources source within =
-    All-contains (λ (s : TableSource). Contains (map name_of sources) (name_of s)) sources source
-    (λ k d inside.
-    subst (Contains (map name_of sources)) (get_or-map name_of sources k d (name_of d) inside)
-    (All-contains_itself (map name_of sources) k (name_of d) (subst (λ (n : ℕ). k < n) (sym (length-map sources name_of)) inside)))
-    within
-
--- a row file of a table is one of a name
-pub named_rows : (text : List ℕ) (names : List NameAt) (sources given : List TableSource) (stop : Stop) (result : Result Rendered Unanswered) → given ≡ sources → map name_of sources ≡ names
-    → IsStopped text stop result → IfReadFault (no_tables_by stop) (IsRowFileOf given) → IfFault result (IsFileOf names)
-named_rows text names sources given stop (Ok answer) same are is of = tt
-named_rows text names sources given stop (Err (Memory error)) same are is of = tt
-named_rows text names sources given (StoppedByFault file) (Err (ReadFault named)) same are is (source, within, row) =
-    subst (λ (ns : List NameAt). IsFileOf ns named) are
-    (name_of source, contains_map sources source (subst (λ (ss : List TableSource). Contains ss source) same within), inr (is ∙ row))
-named_rows text names sources given (UnknownTable span) (Err (ReadFault named)) same are is of = absurd is
-named_rows text names sources given (BadData message) (Err (ReadFault named)) same are is of = absurd is
-named_rows text names sources given (StoppedByMemory error) (Err (ReadFault named)) same are is of = absurd is
-
-abbrev stopped_by : (A : Type 0) → Stop → Result A Stop
-stopped_by A stop = Err stop
-
--- where a stop is answered no call failed
-pub uncounted_stop : (A : Type 0) (text : List ℕ) (stop : Stop) (result : Result Rendered Unanswered) (first middle last : ℕ)
-    → middle ≡ first → IsStopped text stop result → IfTold (stopped_by A stop) (last ≡ middle) → OnOk result (last ≡ first)
-uncounted_stop A text (UnknownTable span) (Ok answer) first middle last same is told = told ∙ same
-uncounted_stop A text (BadData message) (Ok answer) first middle last same is told = told ∙ same
-uncounted_stop A text (StoppedByFault file) (Ok answer) first middle last same is told = absurd is
-uncounted_stop A text (StoppedByMemory error) (Ok answer) first middle last same is told = absurd is
-uncounted_stop A text stop (Err error) first middle last same is told = tt

@@ -1,5 +1,6 @@
 mod Ends
 mod Froms
+mod OneContent
 mod OneFrom
 mod OneOutcome
 mod Queries

@@ -10,7 +10,7 @@ use Rattle.esql_parse.specs.declared.error.ParseError.TheVariants.{Unexpected, T
 use Rattle.esql_parse.specs.Spells.{Spells, Refuses}
 use Rattle.answer_text.specs.Messages.{longer_than_limit, unexpected_character, not_closed, unknown_escape, comment_not_closed, number_too_large, nested_too_deep, too_many_commands}
 use Rattle.esql_io.specs.Files.{Held}
-use Rattle.table_files.specs.Catalog.{BytesOf}
+use Rattle.ndjson_load.specs.Over.{BytesOf}
 use Rattle.esql_run.specs.Bytes.{Outcome, refused}
 use Rattle.esql_run.specs.From.{is_one_table, names_of, span_of}
 use Rattle.esql_run.specs.Outcome.{IsQuery, IsAnswer, IsOutcome, AnswersBy, AnswersQuery, ReadsKnown, outcome_of}

@@ -7,7 +7,7 @@ use Rattle.answer_text.specs.Messages.{out_of_memory, cannot_read}
 use Rattle.esql_run.specs.declared.status.Status.{Status}
 use Rattle.esql_run.specs.declared.status.Status.TheVariants.{Done, Refused, Usage, BadData, ReadFault, WriteFault, NoMemory, PatternRoom}
 use Rattle.esql_run.specs.Bytes.{Outcome}
-use Rattle.esql_run.specs.Outcome.{IsOutcome}
+use Rattle.esql_run.specs.Outcome.{AsksFile, IsOutcome}
 
 -- the status tells what the words mean
 abbrev pub IsTold : Status → Type 0
@@ -41,9 +41,9 @@ IsComplete NoMemory read wrote = Unit {0}
 IsComplete PatternRoom read wrote = ⊥
 
 -- the error stream is to have the line for want of memory, or that for a failed read where the files' count of faults rose,
--- with the name of the file whose call failed
-abbrev pub IsOtherLine : Type 0 → List ℕ → List ℕ → Type 0
-IsOtherLine read failed line = (line ≡ out_of_memory) ⊎ (read × (line ≡ cannot_read failed))
+-- with the name of the file whose call failed, which is one that the words open
+abbrev pub IsOtherLine : List (List ℕ) → Held → Type 0 → List ℕ → List ℕ → Type 0
+IsOtherLine words held read failed line = (line ≡ out_of_memory) ⊎ (read × AsksFile words held failed × (line ≡ cannot_read failed))
 
 -- After a failed write the output took a front of an outcome's bytes for it, and the error stream nothing; or the output
 -- took all of them, and the error stream a front of its own; or the output took nothing, and the error stream a front of
@@ -52,7 +52,7 @@ abbrev pub TookFronts : List (List ℕ) → Held → Type 0 → List ℕ → Opt
 TookFronts words held read failed out out_after err err_after =
     ((outcome : Outcome) × IsOutcome words held outcome × TookFront out out_after outcome.out × (err_after ≡ err))
     ⊎ ((outcome : Outcome) × IsOutcome words held outcome × (out_after ≡ with_more out outcome.out) × TookFront err err_after outcome.err)
-    ⊎ ((line : List ℕ) × IsOtherLine read failed line × (out_after ≡ with_more out []) × TookFront err err_after line)
+    ⊎ ((line : List ℕ) × IsOtherLine words held read failed line × (out_after ≡ with_more out []) × TookFront err err_after line)
 
 -- the output took nothing, and the error stream a line
 abbrev pub TookLine : List ℕ → Option (List ℕ) → Option (List ℕ) → Option (List ℕ) → Option (List ℕ) → Type 0

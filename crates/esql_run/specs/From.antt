@@ -1,5 +1,5 @@
 -- What FROM with one table and no command is answered with.
-use Rattle.std.specs.Prelude.{◌≡◌, ◌≢◌, ℕ, nat_eq, Bool, ◌&&◌, List, [], ◌∷◌, length, map, take, Some, None, Ok, Err}
+use Rattle.std.specs.Prelude.{◌≡◌, ◌≢◌, ℕ, nat_eq, Bool, ◌&&◌, List, [], ◌∷◌, length, map, take, Some, Ok, Err}
 use Rattle.esql_io.specs.Files.{Held}
 use Rattle.esql_types.specs.declared.places.Span.{Span}
 use Rattle.esql_types.specs.declared.names.Column.{Column}
@@ -9,8 +9,10 @@ use Rattle.esql_ast.specs.declared.query.Query.{Query}
 use Rattle.esql_ast.specs.declared.query.SourceCommand.{SourceCommand}
 use Rattle.esql_ast.specs.declared.query.SourceCommand.TheVariants.{Tables, OneRow}
 use Rattle.ndjson_load.specs.declared.column.MappedColumn.{MappedColumn}
+use Rattle.ndjson_load.specs.Over.{Over}
+use Rattle.table_files.specs.Asked.{AskedToFind, AskedToLoad}
 use Rattle.table_files.specs.declared.stop.TableSource.{TableSource}
-use Rattle.table_files.specs.Catalog.{BytesOf, Rows, Halt, unknown, bad, Gathers, Loads}
+use Rattle.table_files.specs.Catalog.{Rows, Halt, unknown, bad, Gathers, Loads}
 use Rattle.answer_text.specs.Txt.{shown_txt}
 use Rattle.answer_text.specs.Messages.{unknown_table, no_columns, bad_data_line}
 use Rattle.esql_run.specs.Bytes.{Outcome, refused}
@@ -48,14 +50,18 @@ abbrev pub shown : List Column → Rows → Outcome
 shown columns rows = record { status = Done; out = shown_txt columns (take 1000 rows); err = [] }
 
 -- The mapping of the table is read; a table without columns is refused at the command; then its rows are read.
-pub data IsFromOutcome (held : BytesOf) (text : List ℕ) (span : Span) (names : List NameAt) : Outcome → Type 0 where
+pub data IsFromOutcome (held : Held) (text : List ℕ) (span : Span) (names : List NameAt) : Outcome → Type 0 where
   not_found : (halt : Halt) → Gathers held 0 names (Err halt) → IsFromOutcome held text span names (halted text halt)
   without_columns : (sources : List TableSource) → Gathers held 0 names (Ok sources) → columns_of sources ≡ [] → IsFromOutcome held text span names (refused text span.from no_columns)
   not_loaded : (sources : List TableSource) (halt : Halt) → Gathers held 0 names (Ok sources) → columns_of sources ≢ [] → Loads held sources (Err halt) → IsFromOutcome held text span names (halted text halt)
   loaded : (sources : List TableSource) (tables : List Rows) → Gathers held 0 names (Ok sources) → columns_of sources ≢ [] → Loads held sources (Ok tables)
       → IsFromOutcome held text span names (shown (columns_of sources) (rows_of tables))
 
--- nothing is said over files that do not tell what they hold
+-- the answer over what the files hold, and over some contents where they do not tell it
 abbrev pub AnswersFrom : List ℕ → Held → Span → List NameAt → Outcome → Type 0
-AnswersFrom text None span names outcome = Unit {0}
-AnswersFrom text (Some held) span names outcome = IsFromOutcome held text span names outcome
+AnswersFrom text held span names outcome = Over held (λ bytes_of. IsFromOutcome (Some bytes_of) text span names outcome)
+
+-- The files that are asked for: those with which the tables are found, and, where there are columns, those of their rows.
+pub data AskedByFrom (held : Held) (names : List NameAt) : List ℕ → Type 0 where
+  to_find : (file : List ℕ) → AskedToFind held 0 names file → AskedByFrom held names file
+  to_load : (sources : List TableSource) (file : List ℕ) → Gathers held 0 names (Ok sources) → columns_of sources ≢ [] → AskedToLoad held sources file → AskedByFrom held names file

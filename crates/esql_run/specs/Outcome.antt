@@ -9,7 +9,6 @@ use Rattle.esql_lex.specs.Tokens.{Tokens}
 use Rattle.esql_ast.specs.declared.query.Query.{Query}
 use Rattle.esql_ast.specs.Nodes.{nodes_of}
 use Rattle.esql_parse.specs.Spells.{Spells}
-use Rattle.table_files.specs.Stops.{IsFileOf}
 use Rattle.query_semantics.specs.declared.table.Ran.{Ran}
 use Rattle.query_semantics.specs.Tables.{cells_of}
 use Rattle.query_semantics.specs.Commands.{meaning_of}
@@ -19,7 +18,7 @@ use Rattle.answer_text.specs.Txt.{shown_txt}
 use Rattle.answer_text.specs.Warnings.{warned}
 use Rattle.answer_text.specs.Messages.{unknown_column, not_built, usage}
 use Rattle.esql_run.specs.Bytes.{Outcome, refused}
-use Rattle.esql_run.specs.From.{is_one_table, names_of, span_of, AnswersFrom}
+use Rattle.esql_run.specs.From.{is_one_table, names_of, span_of, AnswersFrom, AskedByFrom}
 use Rattle.esql_run.specs.Unread.{IsNoQuery}
 use Rattle.esql_run.specs.declared.status.Status.TheVariants.{Done, Usage}
 
@@ -86,12 +85,17 @@ ReadsKnown [] None = Unit {0}
 ReadsKnown (text ∷ []) None = ReadsNoFile text
 ReadsKnown (first ∷ second ∷ words) None = Unit {0}
 
--- the file is the mapping or the rows of a table that the query of the text names
-abbrev pub IsFileFor : List ℕ → List ℕ → Type 0
-IsFileFor text file = (query : Query) × IsQuery text query × IsFileOf (names_of query.source) file
+-- FROM with one table opens files, and no other query does
+abbrev pub AsksForQuery : Held → Query → List ℕ → Type 0
+AsksForQuery held query file = (is_one_table query ≡ true) × AskedByFrom held (names_of query.source) file
 
--- the words are a query that reads the file
-abbrev pub AsksFile : List (List ℕ) → List ℕ → Type 0
-AsksFile [] file = ⊥
-AsksFile (text ∷ []) file = IsFileFor text file
-AsksFile (first ∷ second ∷ words) file = ⊥
+-- the text is that of a query that opens the file
+abbrev pub IsFileFor : List ℕ → Held → List ℕ → Type 0
+IsFileFor text held file = (query : Query) × IsQuery text query × AsksForQuery held query file
+
+-- The words open the file over what is held. Where they are not one word, where the text is no query, and where a form that
+-- is not built is refused, no file is opened.
+abbrev pub AsksFile : List (List ℕ) → Held → List ℕ → Type 0
+AsksFile [] held file = ⊥
+AsksFile (text ∷ []) held file = IsFileFor text held file
+AsksFile (first ∷ second ∷ words) held file = ⊥

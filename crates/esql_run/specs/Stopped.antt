@@ -1,5 +1,7 @@
 -- Where tables halt, or a call on a file failed.
-use Rattle.std.specs.Prelude.{◌≡◌, List, ℕ, Result, Ok, Err}
+use Rattle.std.specs.Prelude.{◌≡◌, List, ℕ, Some, Result, Ok, Err}
+use Rattle.esql_io.specs.Files.{Held}
+use Rattle.esql_io.specs.Calls.{NoneFailed, OneFailed}
 use Rattle.esql_types.specs.Spans.{SpanFits}
 use Rattle.table_files.specs.declared.stop.Stop.{Stop}
 use Rattle.table_files.specs.declared.stop.Stop.TheVariants.{UnknownTable, BadData, ReadFault as StoppedByFault, Memory as StoppedByMemory}
@@ -10,10 +12,12 @@ use Rattle.esql_run.specs.declared.rendered.Unanswered.TheVariants.{ReadFault, M
 use Rattle.esql_run.specs.From.{halted}
 use Rattle.esql_run.specs.Made.{outcome_made}
 
--- P of the file, if a call on it failed
-abbrev pub IfFault : Result Rendered Unanswered → (List ℕ → Type 0) → Type 0
-IfFault (Err (ReadFault file)) P = P file
-IfFault _ P = Unit {0}
+-- a call failed exactly where ReadFault names its file, which is one that was asked for; nothing is said where memory was
+-- refused
+abbrev pub CalledToAnswer : {Files : Type 0} → (Files → Held) → (Files → ℕ) → (Files → List ℕ) → (List ℕ → Type 0) → Result Rendered Unanswered → Files → Files → Type 0
+CalledToAnswer holds faults failed IsAsked (Ok answer) old new = NoneFailed holds faults failed old new
+CalledToAnswer holds faults failed IsAsked (Err (ReadFault file)) old new = IsAsked file × OneFailed holds faults failed (Some file) old new
+CalledToAnswer holds faults failed IsAsked (Err (Memory error)) old new = Unit {0}
 
 -- the answer to a stop is its refusal or the line on its file; a failed call and want of memory are handed on
 abbrev pub IsStopped : List ℕ → Stop → Result Rendered Unanswered → Type 0

@@ -1,16 +1,13 @@
-ghost use Rattle.std.specs.Prelude.{◌≡◌, [], map, OnOk, IfOk};
+ghost use Rattle.std.specs.Prelude.{◌≡◌, [], map, IfOk};
 ghost use Rattle.std.specs.String.{string_bytes};
-ghost use Rattle.esql_types.specs.Counts.{Rose};
 ghost use Rattle.esql_ast.specs.Fits.{QueryFits};
-ghost use Rattle.table_files.specs.Stops.{IsFileOf};
 ghost use Rattle.query_semantics.specs.Tables.{IsShaped};
 ghost use Rattle.query_semantics.specs.Shapes.{shape_of};
 ghost use Rattle.query_semantics.specs.Unbuilt.{unbuilt_of};
 ghost use Rattle.esql_run.specs.Answers.{IsTold};
-ghost use Rattle.esql_run.specs.Outcome.{IsOutcome, IsAnswer, AnswersQuery, IsFileFor, AsksFile, outcome_of, outcome_built, done, wrong_words};
-ghost use Rattle.esql_run.specs.From.{names_of};
+ghost use Rattle.esql_run.specs.Outcome.{IsOutcome, IsAnswer, AnswersQuery, AsksForQuery, IsFileFor, AsksFile, outcome_of, outcome_built, done, wrong_words};
 ghost use Rattle.esql_run.specs.Made.{outcome_made};
-ghost use Rattle.esql_run.specs.Stopped.{IfFault};
+ghost use Rattle.esql_run.specs.Stopped.{CalledToAnswer};
 
 use crate::Status;
 use crate::from::answer_from;
@@ -33,9 +30,7 @@ pub(crate) fn answer<F: Files>(
 ) -> Result<Rendered, Unanswered>
     ensures told { IfOk result (λ answer. IsOutcome (map string_bytes words.now) (F.holds files.old) (outcome_made answer)) }
     ensures status { IfOk result (λ answer. IsTold answer.status) }
-    ensures named { IfFault result (AsksFile (map string_bytes words.now)) }
-    ensures rose { IfFault result (λ file. Rose (F.faults files.old) (F.faults files.new) × (F.failed files.new ≡ file)) }
-    ensures uncounted { OnOk result (F.faults files.new ≡ F.faults files.old) }
+    ensures called { CalledToAnswer F.holds F.faults F.failed (AsksFile (map string_bytes words.now) (F.holds files.old)) result files.old files.new }
 {
     if words.len() != 1 {
         return Ok(wrong_words(alloc)?);
@@ -56,9 +51,7 @@ fn wrong_words(alloc: Global) -> Result<Rendered, AllocError>
 fn answer_text<F: Files>(alloc: Global, text: &str, files: &mut F) -> Result<Rendered, Unanswered>
     ensures told { IfOk result (λ answer. IsAnswer text.now (F.holds files.old) (outcome_made answer)) }
     ensures status { IfOk result (λ answer. IsTold answer.status) }
-    ensures named { IfFault result (IsFileFor text.now) }
-    ensures rose { IfFault result (λ file. Rose (F.faults files.old) (F.faults files.new) × (F.failed files.new ≡ file)) }
-    ensures uncounted { OnOk result (F.faults files.new ≡ F.faults files.old) }
+    ensures called { CalledToAnswer F.holds F.faults F.failed (IsFileFor text.now (F.holds files.old)) result files.old files.new }
 {
     match read_query(alloc, text) {
         Ok(query) => answer_query(alloc, text, &query, files),
@@ -76,9 +69,7 @@ fn answer_query<F: Files>(
     requires { QueryFits text.now query.now }
     ensures told { IfOk result (λ answer. AnswersQuery text.now (F.holds files.old) query.now (outcome_made answer)) }
     ensures status { IfOk result (λ answer. IsTold answer.status) }
-    ensures named { IfFault result (IsFileOf (names_of query.now.source)) }
-    ensures rose { IfFault result (λ file. Rose (F.faults files.old) (F.faults files.new) × (F.failed files.new ≡ file)) }
-    ensures uncounted { OnOk result (F.faults files.new ≡ F.faults files.old) }
+    ensures called { CalledToAnswer F.holds F.faults F.failed (AsksForQuery (F.holds files.old) query.now) result files.old files.new }
 {
     match &query.source {
         SourceCommand::Tables { span, tables, .. }

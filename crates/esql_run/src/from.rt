@@ -1,12 +1,10 @@
-ghost use Rattle.std.specs.Prelude.{◌≡◌, ◌≤◌, ◌<◌, [], ◌∷◌, ◌++◌, List, Some, slice_get, length, map, take, All, OnOk, IfOk};
-ghost use Rattle.esql_types.specs.Counts.{Rose};
+ghost use Rattle.std.specs.Prelude.{◌≡◌, ◌≤◌, ◌<◌, [], ◌∷◌, ◌++◌, List, Some, slice_get, length, map, take, All, IfOk};
 ghost use Rattle.esql_types.specs.Spans.{SpanFits};
-ghost use Rattle.table_files.specs.Stops.{IsFileOf};
 ghost use Rattle.answer_text.specs.Messages.{bad_data_line};
 ghost use Rattle.esql_run.specs.Answers.{IsTold};
-ghost use Rattle.esql_run.specs.From.{AnswersFrom, columns_of, rows_of, shown, halted};
+ghost use Rattle.esql_run.specs.From.{AnswersFrom, AskedByFrom, columns_of, rows_of, shown, halted};
 ghost use Rattle.esql_run.specs.Made.{outcome_made};
-ghost use Rattle.esql_run.specs.Stopped.{IfFault, IsStopped, StopFits};
+ghost use Rattle.esql_run.specs.Stopped.{CalledToAnswer, IsStopped, StopFits};
 
 use crate::Status;
 use crate::rendered::{Rendered, Unanswered, refuse};
@@ -30,13 +28,12 @@ pub(crate) fn answer_from<F: Files>(
     names: &[NameAt],
     files: &mut F,
 ) -> Result<Rendered, Unanswered>
+    requires one { length names.now ≡ 1 }
     requires span { SpanFits text.now span }
     requires names { All (λ name. SpanFits text.now name.span) names.now }
     ensures told { IfOk result (λ answer. AnswersFrom text.now (F.holds files.old) span names.now (outcome_made answer)) }
     ensures status { IfOk result (λ answer. IsTold answer.status) }
-    ensures named { IfFault result (IsFileOf names.now) }
-    ensures rose { IfFault result (λ file. Rose (F.faults files.old) (F.faults files.new) × (F.failed files.new ≡ file)) }
-    ensures uncounted { OnOk result (F.faults files.new ≡ F.faults files.old) }
+    ensures called { CalledToAnswer F.holds F.faults F.failed (AskedByFrom (F.holds files.old) names.now) result files.old files.new }
 {
     let sources = match gather(alloc, files, names) {
         Ok(sources) => sources,

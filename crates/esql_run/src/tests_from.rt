@@ -232,6 +232,9 @@ impl Files for TooManySpaces {
     }
 
     fn read(&mut self, into: &mut [u8]) -> Result<usize, Failed> {
+        if self.current.is_none() {
+            return Ok(0);
+        }
         if self.front.is_empty() {
             let count = into.len().min(self.spaces).min(SPACES.len());
             self.spaces -= count;

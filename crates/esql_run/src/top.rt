@@ -36,7 +36,7 @@ pub fn run<F: Files, M: Maker, K: Sink, E: Sink>(
         → (K.faults out.new ≡ K.faults out.old) × (E.faults err.new ≡ E.faults err.old) }
     ensures faults { result ≡ Status.ReadFault → TookLine (cannot_read (F.failed files.new))
         (K.taken out.old) (K.taken out.new) (E.taken err.old) (E.taken err.new) }
-    ensures asked { result ≡ Status.ReadFault → AsksFile (map string_bytes words.now) (F.failed files.new) }
+    ensures asked { result ≡ Status.ReadFault → AsksFile (map string_bytes words.now) (F.holds files.old) (F.failed files.new) }
     ensures prefixes { result ≡ Status.WriteFault → TookFronts (map string_bytes words.now) (F.holds files.old)
         (Rose (F.faults files.old) (F.faults files.new)) (F.failed files.new)
         (K.taken out.old) (K.taken out.new) (E.taken err.old) (E.taken err.new) }

@@ -11,3 +11,4 @@ mod Loadable
 mod LineLaws
 mod Sorted
 mod OneMapping
+mod Overs

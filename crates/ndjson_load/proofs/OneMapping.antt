@@ -1,6 +1,11 @@
 -- What a mapping gives is unique: one list of columns, or one fault.
 use Rattle.std.proofs.Common.{◌≡◌, inl, inr, ℕ, zero, suc, ◌+◌, ◌<◌, Bool, true, false, List, [], ◌∷◌, length, get_or, map, cond, Option, Some, None, Result, Ok, Err, refl, sym, ap, subst, ◌∙◌, arith}
-use Rattle.std.specs.Ordering.{nat_cmp, is_eq}
+use Rattle.std.specs.Ordering.{nat_cmp, is_eq, is_lt, ordering_reverse}
+use Rattle.std.specs.List.Sorted.{IsSortedBy}
+use Rattle.std.specs.declared.cmp.Ordering.{Ordering}
+use Rattle.std.specs.declared.cmp.Ordering.TheVariants.{Less, Equal, Greater}
+use Rattle.std.proofs.lemmas.List.MinMax.{ranks_by}
+use Rattle.std.proofs.lemmas.List.Sorted.{sorted_far}
 use Rattle.std.specs.Cmp.Lexicographic.{slice_cmp}
 use Rattle.std.specs.Str.{bytes_eq}
 use Rattle.std.proofs.lemmas.Cmp.{nat_list_cmp_total, tied_itself}
@@ -9,7 +14,8 @@ use Rattle.std.proofs.lemmas.Map.Text.{is_eq-slice_cmp}
 use Rattle.ndjson_load.specs.declared.cause.MappingCause.{MappingCause}
 use Rattle.ndjson_load.specs.declared.cause.MappingCause.TheVariants.{Twice}
 use Rattle.ndjson_load.specs.declared.column.MappedColumn.{MappedColumn}
-use Rattle.ndjson_load.specs.Mappings.{IsMapping, IsMappingFault, IsTwice, AreOrdered, found_columns, first_twice, begins_with_name}
+use Rattle.ndjson_load.specs.Mappings.{IsMapping, IsMappingFault, IsTwice, AreOrdered, found_columns, first_twice, begins_with_name, name_lt}
+use Rattle.ndjson_load.specs.Shapes.{NamesRise}
 use Rattle.ndjson_load.proofs.Sorted.{one_list_of_keys, places_differ, one_order}
 
 abbrev name_of : MappedColumn → List ℕ
@@ -67,6 +73,21 @@ ordered_once : (found columns others : List MappedColumn) → AreOrdered found c
 ordered_once found columns others one other once =
     one_order name_of found columns others one.same other.same (ordered_names found columns others one other)
     (places_differ nat_list_cmp_total exact_bytes name_of columns one.order (λ i d within same. differ columns d i once within same))
+
+less_by : (o p : Ordering) → p ≡ ordering_reverse o → is_lt o ≡ false → (o ≡ Equal → ⊥) → is_lt p ≡ true
+less_by Less p reversed not apart = absurd cc
+less_by Equal p reversed not apart = absurd (apart refl)
+less_by Greater p reversed not apart = ap is_lt reversed
+
+-- columns in order, no two of one name, have names that rise
+pub ordered_rise : (columns : List MappedColumn) → IsSortedBy name_lt columns → first_twice columns ≡ None → NamesRise columns
+ordered_rise columns order once i j d before within =
+    let left = name_of (get_or columns i d) in
+    let right = name_of (get_or columns j d) in
+    let o = nat_list_cmp_total in
+    let not : is_lt (slice_cmp nat_cmp right left) ≡ false = sorted_far name_lt (ranks_by o name_of) columns order i j d (omega arith) within in
+    let apart = places_differ o exact_bytes name_of columns order (λ i d within same. differ columns d i once within same) i j d before within in
+    less_by (slice_cmp nat_cmp right left) (slice_cmp nat_cmp left right) (o.antisymm left right) not (λ same. apart (sym (exact_bytes right left same)))
 
 abbrev Found : Type 0
 Found = Result (List MappedColumn) MappingCause

@@ -1,9 +1,11 @@
 pub mod Accepted
+pub mod Called
 pub mod Documents
 pub mod Gathering
 pub mod Joining
 pub mod Loading
 pub mod Mappings
+pub mod Over
 pub mod Rows
 pub mod Shapes
 pub mod Whole

@@ -1,5 +1,5 @@
 -- What the code answers as it takes the cells of a row and the rows of a table.
-use Rattle.std.specs.Prelude.{◌≡◌, ℕ, List, Option, Some, None, Result, Ok, Err, ⊤}
+use Rattle.std.specs.Prelude.{◌≡◌, ℕ, ◌≤◌, List, length, Option, Some, None, Result, Ok, Err, ⊤}
 use Rattle.esql_types.specs.declared.value.Value.{Value as CellValue}
 use Rattle.ndjson_load.specs.Rows.{RowFault, table_of}
 use Rattle.ndjson_load.specs.declared.column.MappedColumn.{MappedColumn}
@@ -29,12 +29,12 @@ IfRowFault TooLarge P = ⊤
 IfRowFault (BadRow line field cause) P = P (record { line = line; field = field; cause = cause })
 IfRowFault (Memory error) P = ⊤
 
--- the table of the bytes of a file, and none exactly where the file is not held
+-- the table of the bytes of a file, which are not too many, and none exactly where the file is not held
 abbrev pub IsLoaded : List MappedColumn → Option (List ℕ) → Option (List (List (List CellValue))) → Type 0
 IsLoaded columns None None = ⊤
 IsLoaded columns None (Some table) = ⊥
 IsLoaded columns (Some bytes) None = ⊥
-IsLoaded columns (Some bytes) (Some table) = table_of columns bytes ≡ Ok table
+IsLoaded columns (Some bytes) (Some table) = (length bytes ≤ 268435456) × (table_of columns bytes ≡ Ok table)
 
 -- the list that is meant, or where a row is bad as it is meant, or want of memory
 abbrev pub Loads : {Y T : Type 0} → Result (List Y) RowFault → Result T LoadError → List Y → Type 0

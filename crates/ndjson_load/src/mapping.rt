@@ -1,6 +1,6 @@
 //! Mappings: which columns a table has.
 ghost use Rattle.std.specs.Prelude.{◌≡◌, [], ◌++◌, None, Ok, IfOk, IfErr, option_map, All};
-ghost use Rattle.ndjson_load.specs.Shapes.{IsLoadable};
+ghost use Rattle.ndjson_load.specs.Shapes.{IsLoadable, NamesRise};
 ghost use Rattle.std.specs.Ordering.{nat_cmp};
 ghost use Rattle.std.specs.Cmp.Lexicographic.{slice_cmp};
 ghost use Rattle.serde_json.specs.View.{view, members_view};
@@ -22,6 +22,7 @@ use std::cmp::Ordering;
 pub fn read_mapping(alloc: Global, bytes: &[u8]) -> Result<Seq<MappedColumn>, MappingError>
     ensures ok { IfOk result (IsMapping bytes.now) }
     ensures loadable { IfOk result (All IsLoadable) }
+    ensures rise { IfOk result NamesRise }
     ensures bad { IfErr result (λ error. IfBad error (IsMappingFault bytes.now)) }
 {
     let found = find_columns(alloc, bytes)?;

@@ -2,12 +2,13 @@
 ghost use Rattle.std.specs.Prelude.{◌≡◌, ◌≤◌, ◌<◌, ◌∷◌, [], None, Some, Ok, Err, List, length, slice_get, option_and_then, IfOk, IfErr, IfSome, IsSome, IsSomeAnd, OnOk, All};
 ghost use Rattle.std.specs.Option.{option_copied};
 ghost use Rattle.serde_json.specs.View.{view};
+ghost use Rattle.ndjson_load.specs.Called.{CalledToLoad};
 ghost use Rattle.ndjson_load.specs.Documents.{document_of};
 ghost use Rattle.ndjson_load.specs.Joining.{after};
 ghost use Rattle.ndjson_load.specs.Rows.{cell_of, cells_of, row_of, line_rows, table_of};
 ghost use Rattle.ndjson_load.specs.Loading.{Loads, IfBadRow, IfRowFault, IsLoaded};
+ghost use Rattle.ndjson_load.specs.Over.{Over};
 ghost use Rattle.ndjson_load.specs.Shapes.{IsLoadable, IsRowOf};
-ghost use Rattle.esql_types.specs.Counts.{Rose};
 
 use crate::document::read_document;
 use crate::lines::{cut_line, is_blank, without_return};
@@ -74,20 +75,15 @@ pub fn load_table<F: Files>(
     file: &str,
     columns: &Seq<MappedColumn>,
 ) -> Result<Option<Table>, LoadError>
-    ensures loaded { IfOk result (λ table. IfSome (F.holds files.old) (λ bytes_of. IsLoaded columns.now (bytes_of file.now) table)) }
-    ensures bad { IfErr result (λ error. IfRowFault error (λ bad. IfSome (F.holds files.old)
-        (λ bytes_of. IsSomeAnd (bytes_of file.now) (λ bytes. (length bytes ≤ MAX_FILE) × (table_of columns.now bytes ≡ Err bad))))) }
-    ensures within { IfOk result (λ table. IfSome (F.holds files.old) (λ bytes_of. IfSome (bytes_of file.now) (λ bytes. length bytes ≤ MAX_FILE))) }
+    ensures loaded { IfOk result (λ table. Over (F.holds files.old) (λ held. IsLoaded columns.now (held file.now) table)) }
+    ensures bad { IfErr result (λ error. IfRowFault error (λ bad. Over (F.holds files.old)
+        (λ held. IsSomeAnd (held file.now) (λ bytes. (length bytes ≤ MAX_FILE) × (table_of columns.now bytes ≡ Err bad))))) }
     ensures wide { IfOk result (λ table. IfSome table (All (λ row. length row ≡ length columns.now))) }
     ensures few { IfOk result (λ table. IfSome table (λ rows. length rows ≤ MAX_FILE)) }
     ensures kinds { IfOk result (λ table. IfSome table (λ rows. All IsLoadable columns.now → All (IsRowOf columns.now) rows)) }
     ensures too_large { result ≡ Err LoadError.TooLarge → IfSome (F.holds files.old)
         (λ bytes_of. IsSomeAnd (bytes_of file.now) (λ bytes. MAX_FILE < length bytes)) }
-    ensures rose { result ≡ Err LoadError.ReadFault → Rose (F.faults files.old) (F.faults files.new) }
-    ensures failed { result ≡ Err LoadError.ReadFault → F.failed files.new ≡ file.now }
-    ensures uncounted { (result ≡ Err LoadError.ReadFault → ⊥) → F.faults files.new ≡ F.faults files.old }
-    ensures holds { F.holds files.new ≡ F.holds files.old }
-    ensures faults { F.faults files.old ≤ F.faults files.new }
+    ensures called { CalledToLoad F.holds F.faults F.failed (Some file.now) result files.old files.new }
 {
     match read_whole(alloc, files, file) {
         Ok(Some(bytes)) => match read_rows(alloc, bytes.as_slice(), columns.as_slice()) {

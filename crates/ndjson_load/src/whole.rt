@@ -1,6 +1,6 @@
-ghost use Rattle.std.specs.Prelude.{◌≡◌, ◌≤◌, ◌<◌, ◌+◌, ◌++◌, None, Err, length, take, drop, vec_len, option_map, IfOk, OnOk, IfSome, IsSomeAnd};
-ghost use Rattle.esql_types.specs.Counts.{Rose};
+ghost use Rattle.std.specs.Prelude.{◌≡◌, ◌≤◌, ◌<◌, ◌+◌, ◌++◌, Some, Err, length, take, drop, vec_len, option_map, IfOk, OnOk, IfSome, IsSomeAnd};
 ghost use Rattle.esql_io.specs.Files.{whole_of};
+ghost use Rattle.ndjson_load.specs.Called.{CalledToRead};
 ghost use Rattle.ndjson_load.specs.Whole.{IsNext};
 
 use esql_io::Files;
@@ -40,12 +40,7 @@ pub fn read_whole<F: Files>(
         (λ bytes_of. IsSomeAnd (bytes_of file.now) (λ bytes. MAX_FILE < length bytes)) }
     ensures given_up { result ≡ Err ReadError.TooLarge
         → F.left files.new ≡ option_map (drop (MAX_FILE + 1)) (whole_of (F.holds files.old) file.now) }
-    ensures rose { result ≡ Err ReadError.ReadFault → Rose (F.faults files.old) (F.faults files.new) }
-    ensures failed { result ≡ Err ReadError.ReadFault → F.failed files.new ≡ file.now }
-    ensures kept { OnOk result (F.failed files.new ≡ F.failed files.old) }
-    ensures uncounted { (result ≡ Err ReadError.ReadFault → ⊥) → F.faults files.new ≡ F.faults files.old }
-    ensures holds { F.holds files.new ≡ F.holds files.old }
-    ensures faults { F.faults files.old ≤ F.faults files.new }
+    ensures called { CalledToRead F.holds F.faults F.failed (Some file.now) result files.old files.new }
 {
     match files.open(file) {
         Ok(true) => match read_rest(alloc, files) {
@@ -64,13 +59,7 @@ fn read_rest<F: Files>(alloc: Global, files: &mut F) -> Result<Seq<u8>, ReadErro
     ensures too_large { result ≡ Err ReadError.TooLarge → IfSome (F.left files.old) (λ rest. MAX_FILE < length rest) }
     ensures given_up { result ≡ Err ReadError.TooLarge
         → F.left files.new ≡ option_map (drop (MAX_FILE + 1)) (F.left files.old) }
-    ensures rose { result ≡ Err ReadError.ReadFault → Rose (F.faults files.old) (F.faults files.new) }
-    ensures failed { result ≡ Err ReadError.ReadFault
-        → IfSome (F.opened files.old) (λ name. F.failed files.new ≡ name) }
-    ensures kept { OnOk result (F.failed files.new ≡ F.failed files.old) }
-    ensures uncounted { (result ≡ Err ReadError.ReadFault → ⊥) → F.faults files.new ≡ F.faults files.old }
-    ensures holds { F.holds files.new ≡ F.holds files.old }
-    ensures faults { F.faults files.old ≤ F.faults files.new }
+    ensures called { CalledToRead F.holds F.faults F.failed (F.opened files.old) result files.old files.new }
 {
     let mut piece = [0; PIECE];
     let mut bytes = Vec::new(alloc);
@@ -98,13 +87,7 @@ fn read_piece<F: Files>(
     ensures moved { IfOk result (λ count. F.left files.new ≡ option_map (drop count) (F.left files.old)) }
     ensures opened { OnOk result (F.opened files.new ≡ F.opened files.old) }
     ensures small { result ≡ Err ReadError.TooLarge → ⊥ }
-    ensures rose { result ≡ Err ReadError.ReadFault → Rose (F.faults files.old) (F.faults files.new) }
-    ensures failed { result ≡ Err ReadError.ReadFault
-        → IfSome (F.opened files.old) (λ name. F.failed files.new ≡ name) }
-    ensures kept { OnOk result (F.failed files.new ≡ F.failed files.old) }
-    ensures uncounted { (result ≡ Err ReadError.ReadFault → ⊥) → F.faults files.new ≡ F.faults files.old }
-    ensures holds { F.holds files.new ≡ F.holds files.old }
-    ensures faults { F.faults files.old ≤ F.faults files.new }
+    ensures called { CalledToRead F.holds F.faults F.failed (F.opened files.old) result files.old files.new }
 {
     let count = match files.read(into) {
         Ok(count) => count,

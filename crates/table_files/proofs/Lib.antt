@@ -1,5 +1,7 @@
+mod Asked
 mod Gathered
 mod Named
 mod OneCatalog
+pub mod OneName
 mod Pushed
 mod Rowed

@@ -7,10 +7,11 @@ use Rattle.ndjson_load.specs.declared.cause.MappingCause.{MappingCause}
 use Rattle.ndjson_load.specs.declared.cause.MappingCause.TheVariants.{NotJson}
 use Rattle.ndjson_load.specs.declared.column.MappedColumn.{MappedColumn}
 use Rattle.ndjson_load.specs.Mappings.{IsMapping, IsMappingFault}
+use Rattle.ndjson_load.specs.Over.{BytesOf}
 use Rattle.ndjson_load.specs.Rows.{RowFault, table_of}
 use Rattle.table_files.specs.declared.stop.TableSource.{TableSource}
 use Rattle.table_files.specs.Messages.{too_large, too_many, mapping_message, row_message}
-use Rattle.table_files.specs.Catalog.{BytesOf, Halt, unknown, bad, mapping_file, row_file, most_bytes, most_entries, Holds, NamesTable, no_mapping, wide_mapping, no_rows, bad_mapping, crowded, table, Gathers, no_names, halts, halts_later, one_more, Rows, RowsOf, vanished, wide_rows, bad_row, rows, Loads, no_sources, stops, stops_later, more_rows}
+use Rattle.table_files.specs.Catalog.{Halt, unknown, bad, mapping_file, row_file, most_bytes, most_entries, Holds, NamesTable, no_mapping, wide_mapping, no_rows, bad_mapping, crowded, table, Gathers, no_names, halts, halts_later, one_more, Rows, RowsOf, vanished, wide_rows, bad_row, rows, Loads, no_sources, stops, stops_later, more_rows}
 
 -- the laws of mappings
 pub record Laws : Type 0 where
@@ -124,19 +125,19 @@ one_then Rest (Ok item) result other one (rest, after, is) (also, too, was) = is
 -- ---- names in turn
 
 abbrev LaterNames : BytesOf → ℕ → List NameAt → TableSource → Result (List TableSource) Halt → Type 0
-LaterNames held entries names source rest = Gathers held (entries + 1 + length source.columns) names rest
+LaterNames held entries names source rest = Gathers (Some held) (entries + 1 + length source.columns) names rest
 
-none_gathered : (held : BytesOf) (entries : ℕ) (result : Result (List TableSource) Halt) → Gathers held entries [] result → result ≡ Ok []
+none_gathered : (held : BytesOf) (entries : ℕ) (result : Result (List TableSource) Halt) → Gathers (Some held) entries [] result → result ≡ Ok []
 none_gathered held entries result (no_names _) = refl
 
-first_name : (held : BytesOf) (entries : ℕ) (name : NameAt) (names : List NameAt) (result : Result (List TableSource) Halt) → Gathers held entries (name ∷ names) result
+first_name : (held : BytesOf) (entries : ℕ) (name : NameAt) (names : List NameAt) (result : Result (List TableSource) Halt) → Gathers (Some held) entries (name ∷ names) result
     → (first : Result TableSource Halt) × NamesTable held entries name first × Then (LaterNames held entries names) first result
 first_name held entries name names result (halts _ _ _ halt is) = (Err halt, is, refl)
 first_name held entries name names result (halts_later _ _ _ source halt is later) = (Ok source, is, (Err halt, later, refl))
 first_name held entries name names result (one_more _ _ _ source sources is later) = (Ok source, is, (Ok sources, later, refl))
 
 pub one_gathering : (laws : Laws) (held : BytesOf) (entries : ℕ) (names : List NameAt) (gathered other : Result (List TableSource) Halt)
-    → Gathers held entries names gathered → Gathers held entries names other → gathered ≡ other
+    → Gathers (Some held) entries names gathered → Gathers (Some held) entries names other → gathered ≡ other
 one_gathering laws held entries [] gathered other is was = none_gathered held entries gathered is ∙ sym (none_gathered held entries other was)
 one_gathering laws held entries (name ∷ names) gathered other is was =
     let (first, names_one, then_one) = first_name held entries name names gathered is in
@@ -168,18 +169,18 @@ read_by held source result (bad_row bytes fault holds is) = sym (lines_held held
 read_by held source result (rows bytes read holds is) = sym (lines_held held source bytes holds ∙ ap (with_table source) is)
 
 abbrev LaterSources : BytesOf → List TableSource → Rows → Result (List Rows) Halt → Type 0
-LaterSources held sources read rest = Loads held sources rest
+LaterSources held sources read rest = Loads (Some held) sources rest
 
-none_loaded : (held : BytesOf) (result : Result (List Rows) Halt) → Loads held [] result → result ≡ Ok []
+none_loaded : (held : BytesOf) (result : Result (List Rows) Halt) → Loads (Some held) [] result → result ≡ Ok []
 none_loaded held result no_sources = refl
 
-first_source : (held : BytesOf) (source : TableSource) (sources : List TableSource) (result : Result (List Rows) Halt) → Loads held (source ∷ sources) result
+first_source : (held : BytesOf) (source : TableSource) (sources : List TableSource) (result : Result (List Rows) Halt) → Loads (Some held) (source ∷ sources) result
     → (first : Result Rows Halt) × RowsOf held source first × Then (LaterSources held sources) first result
 first_source held source sources result (stops _ _ halt is) = (Err halt, is, refl)
 first_source held source sources result (stops_later _ _ read halt is later) = (Ok read, is, (Err halt, later, refl))
 first_source held source sources result (more_rows _ _ read tables is later) = (Ok read, is, (Ok tables, later, refl))
 
-pub one_loading : (held : BytesOf) (sources : List TableSource) (loaded other : Result (List Rows) Halt) → Loads held sources loaded → Loads held sources other → loaded ≡ other
+pub one_loading : (held : BytesOf) (sources : List TableSource) (loaded other : Result (List Rows) Halt) → Loads (Some held) sources loaded → Loads (Some held) sources other → loaded ≡ other
 one_loading held [] loaded other is was = none_loaded held loaded is ∙ sym (none_loaded held other was)
 one_loading held (source ∷ sources) loaded other is was =
     let (first, read_one, then_one) = first_source held source sources loaded is in

@@ -1,18 +1,16 @@
 -- The tables that names stand for, over the files that are held.
 use Rattle.std.specs.Prelude.{◌≡◌, ℕ, ◌+◌, ◌≤◌, ◌<◌, List, [], ◌∷◌, ◌++◌, length, codes, Option, Some, None, Result, Ok, Err}
+use Rattle.esql_io.specs.Files.{Held}
 use Rattle.esql_types.specs.declared.places.Span.{Span}
 use Rattle.esql_types.specs.declared.value.Value.{Value}
 use Rattle.esql_ast.specs.declared.query.NameAt.{NameAt}
 use Rattle.ndjson_load.specs.declared.cause.MappingCause.{MappingCause}
 use Rattle.ndjson_load.specs.declared.column.MappedColumn.{MappedColumn}
 use Rattle.ndjson_load.specs.Mappings.{IsMapping, IsMappingFault}
+use Rattle.ndjson_load.specs.Over.{BytesOf, Over}
 use Rattle.ndjson_load.specs.Rows.{RowFault, table_of}
 use Rattle.table_files.specs.declared.stop.TableSource.{TableSource}
 use Rattle.table_files.specs.Messages.{too_large, too_many, mapping_message, row_message}
-
--- the bytes of each name that is held
-abbrev pub BytesOf : Type 0
-BytesOf = List ℕ → Option (List ℕ)
 
 abbrev pub mapping_file : List ℕ → List ℕ
 mapping_file name = name ++ codes ".mapping.json"
@@ -56,13 +54,17 @@ pub data NamesTable (held : BytesOf) (entries : ℕ) (name : NameAt) : Result Ta
   table : (bytes rows : List ℕ) (columns : List MappedColumn) → Holds held (mapping_file name.name) bytes → held (row_file name.name) ≡ Some rows → IsMapping bytes columns
       → entries + 1 + length columns ≤ most_entries → NamesTable held entries name (Ok (record { name = name.name; span = name.span; columns = columns }))
 
+-- the same over files that may not tell what they hold
+abbrev pub StandsFor : Held → ℕ → NameAt → Result TableSource Halt → Type 0
+StandsFor held entries name result = Over held (λ bytes_of. NamesTable bytes_of entries name result)
+
 -- the tables of names in turn, up to the first that is none
-pub data Gathers (held : BytesOf) : ℕ → List NameAt → Result (List TableSource) Halt → Type 0 where
+pub data Gathers (held : Held) : ℕ → List NameAt → Result (List TableSource) Halt → Type 0 where
   no_names : (entries : ℕ) → Gathers held entries [] (Ok [])
-  halts : (entries : ℕ) (name : NameAt) (names : List NameAt) (halt : Halt) → NamesTable held entries name (Err halt) → Gathers held entries (name ∷ names) (Err halt)
-  halts_later : (entries : ℕ) (name : NameAt) (names : List NameAt) (source : TableSource) (halt : Halt) → NamesTable held entries name (Ok source)
+  halts : (entries : ℕ) (name : NameAt) (names : List NameAt) (halt : Halt) → StandsFor held entries name (Err halt) → Gathers held entries (name ∷ names) (Err halt)
+  halts_later : (entries : ℕ) (name : NameAt) (names : List NameAt) (source : TableSource) (halt : Halt) → StandsFor held entries name (Ok source)
       → Gathers held (entries + 1 + length source.columns) names (Err halt) → Gathers held entries (name ∷ names) (Err halt)
-  one_more : (entries : ℕ) (name : NameAt) (names : List NameAt) (source : TableSource) (sources : List TableSource) → NamesTable held entries name (Ok source)
+  one_more : (entries : ℕ) (name : NameAt) (names : List NameAt) (source : TableSource) (sources : List TableSource) → StandsFor held entries name (Ok source)
       → Gathers held (entries + 1 + length source.columns) names (Ok sources) → Gathers held entries (name ∷ names) (Ok (source ∷ sources))
 
 abbrev pub Rows : Type 0
@@ -76,10 +78,14 @@ pub data RowsOf (held : BytesOf) (source : TableSource) : Result Rows Halt → T
       → RowsOf held source (Err (bad (row_message (row_file source.name) fault)))
   rows : (bytes : List ℕ) (table : Rows) → Holds held (row_file source.name) bytes → table_of source.columns bytes ≡ Ok table → RowsOf held source (Ok table)
 
+-- the same over files that may not tell what they hold
+abbrev pub HasRows : Held → TableSource → Result Rows Halt → Type 0
+HasRows held source result = Over held (λ bytes_of. RowsOf bytes_of source result)
+
 -- the rows of tables in turn, up to the first bad file
-pub data Loads (held : BytesOf) : List TableSource → Result (List Rows) Halt → Type 0 where
+pub data Loads (held : Held) : List TableSource → Result (List Rows) Halt → Type 0 where
   no_sources : Loads held [] (Ok [])
-  stops : (source : TableSource) (sources : List TableSource) (halt : Halt) → RowsOf held source (Err halt) → Loads held (source ∷ sources) (Err halt)
-  stops_later : (source : TableSource) (sources : List TableSource) (rows : Rows) (halt : Halt) → RowsOf held source (Ok rows) → Loads held sources (Err halt) → Loads held (source ∷ sources) (Err halt)
-  more_rows : (source : TableSource) (sources : List TableSource) (rows : Rows) (tables : List Rows) → RowsOf held source (Ok rows) → Loads held sources (Ok tables)
+  stops : (source : TableSource) (sources : List TableSource) (halt : Halt) → HasRows held source (Err halt) → Loads held (source ∷ sources) (Err halt)
+  stops_later : (source : TableSource) (sources : List TableSource) (rows : Rows) (halt : Halt) → HasRows held source (Ok rows) → Loads held sources (Err halt) → Loads held (source ∷ sources) (Err halt)
+  more_rows : (source : TableSource) (sources : List TableSource) (rows : Rows) (tables : List Rows) → HasRows held source (Ok rows) → Loads held sources (Ok tables)
       → Loads held (source ∷ sources) (Ok (rows ∷ tables))

@@ -1,10 +1,11 @@
 //! Finding the tables that names stand for.
-ghost use Rattle.std.specs.Prelude.{◌≡◌, ◌⊎◌, ◌≤◌, ◌+◌, length, map, All, IfOk, IfSome};
-ghost use Rattle.esql_types.specs.Counts.{Rose};
-ghost use Rattle.ndjson_load.specs.Shapes.{IsLoadable};
-ghost use Rattle.table_files.specs.Catalog.{NamesTable, Gathers, mapping_file, row_file};
-ghost use Rattle.table_files.specs.Reading.{ReadsFile, FindsFile, ReadsColumns};
-ghost use Rattle.table_files.specs.Stops.{Says, IfTold, IfReadFault, IfUnknownTable, IsFileOf, IsSpanOf, name_of};
+ghost use Rattle.std.specs.Prelude.{◌≡◌, ◌≤◌, ◌+◌, [], ◌∷◌, length, map, All, IfOk, IfErr};
+ghost use Rattle.ndjson_load.specs.Shapes.{IsLoadable, NamesRise};
+ghost use Rattle.table_files.specs.Asked.{AskedToFind};
+ghost use Rattle.table_files.specs.Catalog.{Gathers, StandsFor, row_file};
+ghost use Rattle.table_files.specs.Reading.{FindsOver, ReadsColumns, ReadsOver};
+ghost use Rattle.table_files.specs.Shapes.{AreApart, entries_of};
+ghost use Rattle.table_files.specs.Stops.{CalledUntilStop, Says, IfUnknownTable, IsNoReadFault, IsSpanOf, name_of};
 
 use crate::messages::{mapping_file, mapping_message, row_file, too_large, too_many};
 use crate::{Stop, TableSource};
@@ -21,23 +22,21 @@ const MAX_ENTRIES: usize = 100_000;
 ///
 /// A table has a mapping `NAME.mapping.json` and a row file `NAME.ndjson`, of which the mapping alone is read; a name that
 /// lacks one of them is no table's. A mapping that is too large or bad, or has with the tables before it more than 100,000
-/// tables and columns, is `BadData`. `ReadFault` comes only where a call on the named file failed, and where a call failed
-/// nothing else does but `Memory`.
+/// tables and columns, is `BadData`. `ReadFault` comes only where a call on the named file failed, which is one that was
+/// asked for, and where a call failed nothing else does but `Memory`.
 pub fn gather<F: Files>(
     alloc: Global,
     files: &mut F,
     names: &[NameAt],
 ) -> Result<Seq<TableSource>, Stop>
-    ensures told { IfSome (F.holds files.old) (λ held. Says (Gathers held 0 names.now) result) }
+    ensures told { Says (Gathers (F.holds files.old) 0 names.now) result }
     ensures loadable { IfOk result (All (λ source. All IsLoadable source.columns)) }
-    ensures few { IfOk result (All (λ source. length source.columns ≤ MAX_ENTRIES)) }
+    ensures rise { IfOk result (All (λ source. NamesRise source.columns)) }
+    ensures few { IfOk result (λ sources. entries_of sources ≤ MAX_ENTRIES) }
     ensures names { IfOk result (λ sources. map name_of sources ≡ names.now) }
+    ensures apart { IfOk result (λ sources. AreApart (map (λ name. name.name) names.now) → AreApart (map (λ source. source.name) sources)) }
     ensures place { IfUnknownTable result (IsSpanOf names.now) }
-    ensures named { IfReadFault result (IsFileOf names.now) }
-    ensures rose { IfReadFault result (λ file. Rose (F.faults files.old) (F.faults files.new) × (F.failed files.new ≡ file)) }
-    ensures uncounted { IfTold result (F.faults files.new ≡ F.faults files.old) }
-    ensures holds { F.holds files.new ≡ F.holds files.old }
-    ensures faults { F.faults files.old ≤ F.faults files.new }
+    ensures called { CalledUntilStop F.holds F.faults F.failed (AskedToFind (F.holds files.old) 0 names.now) result files.old files.new }
 {
     let mut sources = Seq::new(alloc);
     let mut entries = 0;
@@ -57,16 +56,13 @@ fn gather_table<F: Files>(
     entries: usize,
 ) -> Result<TableSource, Stop>
     requires { entries ≤ MAX_ENTRIES }
-    ensures told { IfSome (F.holds files.old) (λ held. Says (NamesTable held entries name.now) result) }
+    ensures told { Says (StandsFor (F.holds files.old) entries name.now) result }
     ensures loadable { IfOk result (λ source. All IsLoadable source.columns) }
+    ensures rise { IfOk result (λ source. NamesRise source.columns) }
     ensures few { IfOk result (λ source. entries + 1 + length source.columns ≤ MAX_ENTRIES) }
     ensures named_so { IfOk result (λ source. name_of source ≡ name.now) }
     ensures place { IfUnknownTable result (λ span. span ≡ name.now.span) }
-    ensures named { IfReadFault result (λ file. (file ≡ mapping_file name.now.name) ⊎ (file ≡ row_file name.now.name)) }
-    ensures rose { IfReadFault result (λ file. Rose (F.faults files.old) (F.faults files.new) × (F.failed files.new ≡ file)) }
-    ensures uncounted { IfTold result (F.faults files.new ≡ F.faults files.old) }
-    ensures holds { F.holds files.new ≡ F.holds files.old }
-    ensures faults { F.faults files.old ≤ F.faults files.new }
+    ensures called { CalledUntilStop F.holds F.faults F.failed (AskedToFind (F.holds files.old) entries (name.now ∷ [])) result files.old files.new }
 {
     let file = mapping_file(alloc, name.name.as_str())?;
     let bytes = read_file(alloc, files, file.as_str(), name.span)?;
@@ -86,13 +82,9 @@ fn read_file<F: Files>(
     file: &str,
     span: Span,
 ) -> Result<Seq<u8>, Stop>
-    ensures told { IfSome (F.holds files.old) (λ held. Says (ReadsFile held file.now span) result) }
+    ensures told { Says (ReadsOver (F.holds files.old) file.now span) result }
     ensures place { IfUnknownTable result (λ place. place ≡ span) }
-    ensures rose { IfReadFault result (λ failed. (failed ≡ file.now)
-        × Rose (F.faults files.old) (F.faults files.new) × (F.failed files.new ≡ failed)) }
-    ensures uncounted { IfTold result (F.faults files.new ≡ F.faults files.old) }
-    ensures holds { F.holds files.new ≡ F.holds files.old }
-    ensures faults { F.faults files.old ≤ F.faults files.new }
+    ensures called { CalledUntilStop F.holds F.faults F.failed (λ asked. asked ≡ file.now) result files.old files.new }
 {
     match read_whole(alloc, files, file) {
         Ok(Some(bytes)) => Ok(bytes),
@@ -109,13 +101,9 @@ fn read_file<F: Files>(
 
 /// Finds the row file of a name.
 fn find_rows<F: Files>(alloc: Global, files: &mut F, name: &NameAt) -> Result<(), Stop>
-    ensures told { IfSome (F.holds files.old) (λ held. Says (FindsFile held (row_file name.now.name) name.now.span) result) }
+    ensures told { Says (FindsOver (F.holds files.old) (row_file name.now.name) name.now.span) result }
     ensures place { IfUnknownTable result (λ span. span ≡ name.now.span) }
-    ensures rose { IfReadFault result (λ file. (file ≡ row_file name.now.name)
-        × Rose (F.faults files.old) (F.faults files.new) × (F.failed files.new ≡ file)) }
-    ensures uncounted { IfTold result (F.faults files.new ≡ F.faults files.old) }
-    ensures holds { F.holds files.new ≡ F.holds files.old }
-    ensures faults { F.faults files.old ≤ F.faults files.new }
+    ensures called { CalledUntilStop F.holds F.faults F.failed (λ asked. asked ≡ row_file name.now.name) result files.old files.new }
 {
     let file = row_file(alloc, name.name.as_str())?;
     match files.open(file.as_str()) {
@@ -135,9 +123,10 @@ fn read_columns(
     requires { entries ≤ MAX_ENTRIES }
     ensures told { Says (ReadsColumns bytes.now file.now entries) result }
     ensures loadable { IfOk result (All IsLoadable) }
+    ensures rise { IfOk result NamesRise }
     ensures few { IfOk result (λ columns. entries + 1 + length columns ≤ MAX_ENTRIES) }
     ensures place { IfUnknownTable result (λ _. ⊥) }
-    ensures read { IfReadFault result (λ _. ⊥) }
+    ensures read { IfErr result IsNoReadFault }
 {
     let columns = match read_mapping(alloc, bytes) {
         Ok(columns) => columns,

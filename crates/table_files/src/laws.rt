@@ -1,6 +1,7 @@
-ghost use Rattle.std.specs.Prelude.{◌≡◌, ℕ, List, Result};
+ghost use Rattle.std.specs.Prelude.{◌≡◌, ℕ, List, Some, Result};
 ghost use Rattle.esql_ast.specs.declared.query.NameAt.{NameAt};
-ghost use Rattle.table_files.specs.Catalog.{BytesOf, Gathers, Halt, Loads, Rows};
+ghost use Rattle.ndjson_load.specs.Over.{BytesOf};
+ghost use Rattle.table_files.specs.Catalog.{Gathers, Halt, Loads, Rows};
 ghost use Rattle.table_files.specs.declared.stop.TableSource.{TableSource};
 
 use ndjson_load::{no_mapping_fault, one_mapping, one_mapping_fault};
@@ -8,7 +9,7 @@ use ndjson_load::{no_mapping_fault, one_mapping, one_mapping_fault};
 /// A law: over files that tell what they hold, names stand for one list of tables at most, or halt at one place.
 pub fn one_gathering()
     ensures { (held : BytesOf) (entries : ℕ) (names : List NameAt) (gathered other : Result (List TableSource) Halt)
-        → Gathers held entries names gathered → Gathers held entries names other → gathered ≡ other }
+        → Gathers (Some held) entries names gathered → Gathers (Some held) entries names other → gathered ≡ other }
 {
     one_mapping();
     one_mapping_fault();
@@ -17,5 +18,5 @@ pub fn one_gathering()
 
 /// A law: over files that tell what they hold, tables have one list of rows at most, or halt at one file.
 pub fn one_loading()
-    ensures { (held : BytesOf) (sources : List TableSource) (loaded other : Result (List Rows) Halt) → Loads held sources loaded → Loads held sources other → loaded ≡ other }
+    ensures { (held : BytesOf) (sources : List TableSource) (loaded other : Result (List Rows) Halt) → Loads (Some held) sources loaded → Loads (Some held) sources other → loaded ≡ other }
 {}

@@ -1,10 +1,10 @@
 //! Reading the rows of tables.
-ghost use Rattle.std.specs.Prelude.{◌≡◌, ◌≤◌, IfOk, IfSome};
+ghost use Rattle.std.specs.Prelude.{◌≡◌, IfOk};
 ghost use Rattle.std.specs.List.{AllZip};
-ghost use Rattle.esql_types.specs.Counts.{Rose};
-ghost use Rattle.table_files.specs.Catalog.{RowsOf, Loads, row_file};
+ghost use Rattle.table_files.specs.Asked.{AskedToLoad};
+ghost use Rattle.table_files.specs.Catalog.{HasRows, Loads, row_file};
 ghost use Rattle.table_files.specs.Shapes.{IsTableOf};
-ghost use Rattle.table_files.specs.Stops.{Says, IfTold, IfReadFault, IfUnknownTable, IsRowFileOf, IsSourceSpan};
+ghost use Rattle.table_files.specs.Stops.{CalledUntilStop, Says, IfUnknownTable, IsSourceSpan};
 
 use crate::messages::{row_file, row_message, too_large};
 use crate::{Stop, TableSource};
@@ -16,21 +16,17 @@ use std::alloc::Global;
 /// The rows of tables, in turn, up to the first bad file.
 ///
 /// The rows of a table are those of its file `NAME.ndjson`. One that is no longer there is an `UnknownTable`; one that is too
-/// large, or has a bad row, is `BadData`. `ReadFault` comes only where a call on the named file failed, and where a call
-/// failed nothing else does but `Memory`.
+/// large, or has a bad row, is `BadData`. `ReadFault` comes only where a call on the named file failed, which is one that was
+/// asked for, and where a call failed nothing else does but `Memory`.
 pub fn load<F: Files>(
     alloc: Global,
     files: &mut F,
     sources: &[TableSource],
 ) -> Result<Seq<Table>, Stop>
-    ensures told { IfSome (F.holds files.old) (λ held. Says (Loads held sources.now) result) }
+    ensures told { Says (Loads (F.holds files.old) sources.now) result }
     ensures shaped { IfOk result (AllZip IsTableOf sources.now) }
     ensures place { IfUnknownTable result (IsSourceSpan sources.now) }
-    ensures named { IfReadFault result (IsRowFileOf sources.now) }
-    ensures rose { IfReadFault result (λ file. Rose (F.faults files.old) (F.faults files.new) × (F.failed files.new ≡ file)) }
-    ensures uncounted { IfTold result (F.faults files.new ≡ F.faults files.old) }
-    ensures holds { F.holds files.new ≡ F.holds files.old }
-    ensures faults { F.faults files.old ≤ F.faults files.new }
+    ensures called { CalledUntilStop F.holds F.faults F.failed (AskedToLoad (F.holds files.old) sources.now) result files.old files.new }
 {
     let mut tables = Seq::new(alloc);
     for source in sources {
@@ -41,14 +37,10 @@ pub fn load<F: Files>(
 }
 
 fn load_source<F: Files>(alloc: Global, files: &mut F, source: &TableSource) -> Result<Table, Stop>
-    ensures told { IfSome (F.holds files.old) (λ held. Says (RowsOf held source.now) result) }
+    ensures told { Says (HasRows (F.holds files.old) source.now) result }
     ensures shaped { IfOk result (IsTableOf source.now) }
     ensures place { IfUnknownTable result (λ span. span ≡ source.now.span) }
-    ensures rose { IfReadFault result (λ file. (file ≡ row_file source.now.name)
-        × Rose (F.faults files.old) (F.faults files.new) × (F.failed files.new ≡ file)) }
-    ensures uncounted { IfTold result (F.faults files.new ≡ F.faults files.old) }
-    ensures holds { F.holds files.new ≡ F.holds files.old }
-    ensures faults { F.faults files.old ≤ F.faults files.new }
+    ensures called { CalledUntilStop F.holds F.faults F.failed (λ asked. asked ≡ row_file source.now.name) result files.old files.new }
 {
     let file = row_file(alloc, source.name.as_str())?;
     match load_table(alloc, files, file.as_str(), &source.columns) {

@@ -6,9 +6,9 @@ use Rattle.esql_run.proofs.top.run.Goals as goal
 
 pub returns-in-Ok-cannot_read-clause-prefixes : goal.returns-in-Ok-cannot_read-clause-prefixes
 returns-in-Ok-cannot_read-clause-prefixes g c =
-    let rose = rw c.in-Err-ReadFault.field-0-is at c.in-Err-ReadFault.ensures.rose in
+    let called = rw c.in-Err-ReadFault.field-0-is at c.in-Err-ReadFault.ensures.called in
     line_fronts ReadFault _ _ _ _ _ c.write_both-in-Ok-cannot_read.result _ _ _ _ _ _ (λ e. cc)
-    (inr (rose.0, c.in-Ok-cannot_read.ensures ∙ ap cannot_read (c.as_str-in-Err-ReadFault.ensures ∙ sym rose.1)))
+    (inr (called.1.rose, rw called.1.named called.0, c.in-Ok-cannot_read.ensures ∙ ap cannot_read (c.as_str-in-Err-ReadFault.ensures ∙ sym called.1.named)))
     (ap (λ x. ([], x)) c.as_str-in-Ok-cannot_read.ensures) c.write_both-in-Ok-cannot_read.ensures.writes
 
 pub returns-in-Err-ReadFault-clause-prefixes : goal.returns-in-Err-ReadFault-clause-prefixes
@@ -21,6 +21,6 @@ returns-clause-prefixes g c =
 
 pub returns-in-Ok-cannot_read-clause-faults : goal.returns-in-Ok-cannot_read-clause-faults
 returns-in-Ok-cannot_read-clause-faults g c =
-    let rose = rw c.in-Err-ReadFault.field-0-is at c.in-Err-ReadFault.ensures.rose in
+    let called = rw c.in-Err-ReadFault.field-0-is at c.in-Err-ReadFault.ensures.called in
     line_taken ReadFault _ _ c.write_both-in-Ok-cannot_read.result _ _ _ _ _ _ (λ e. cc) (ap (λ x. ([], x)) c.as_str-in-Ok-cannot_read.ensures)
-    (c.in-Ok-cannot_read.ensures ∙ ap cannot_read (c.as_str-in-Err-ReadFault.ensures ∙ sym rose.1)) c.write_both-in-Ok-cannot_read.ensures.writes
+    (c.in-Ok-cannot_read.ensures ∙ ap cannot_read (c.as_str-in-Err-ReadFault.ensures ∙ sym called.1.named)) c.write_both-in-Ok-cannot_read.ensures.writes

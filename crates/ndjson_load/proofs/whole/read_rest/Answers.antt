@@ -1,4 +1,5 @@
 use Rattle.std.proofs.Common.{arith, ap, refl, ◌∙◌, ◌<◌, ◌≡◌, length, take, drop, vec_len, option_map, length-append, length-take, length-drop}
+use Rattle.esql_io.proofs.Calls.{none_yet, none_then}
 use Rattle.ndjson_load.proofs.Wholes.{front_none, left_none, front_more, left_more, front_all, front_long}
 use Rattle.ndjson_load.proofs.whole.read_rest.Goals as goal
 
@@ -8,9 +9,7 @@ pieces-init g c = record {
   front = front_none _ _ _ c.new-bytes.ensures.len c.new-bytes.ensures.items;
   left = left_none _ _ c.new-bytes.ensures.len;
   opened = refl;
-  kept = refl;
-  holds = refl;
-  faults = refl;
+  none_failed = none_yet _ _ _ _;
   within = omega (arith, c.new-bytes.ensures.len);
 }
 
@@ -29,9 +28,7 @@ pieces-preserved g c =
       front = front_more _ _ _ _ _ _ _ _ len c.pieces.invariant.front c.pieces.invariant.left c.in_ok-count.ensures.next c.in_ok-count.ensures.read;
       left = left_more _ _ _ _ _ _ len c.pieces.invariant.left c.in_ok-count.ensures.moved;
       opened = c.in_ok-count.ensures.opened ∙ c.pieces.invariant.opened;
-      kept = c.in_ok-count.ensures.kept ∙ c.pieces.invariant.kept;
-      holds = c.read_piece.ensures.holds ∙ c.pieces.invariant.holds;
-      faults = c.in_ok-count.ensures.uncounted (λ e. cc) ∙ c.pieces.invariant.faults;
+      none_failed = none_then c.pieces.invariant.none_failed c.in_ok-count.ensures.called;
       within = omega (arith, len, c.in_ok-count.ensures.count, length-take c.min-wanted.result c.pieces.piece, c.min-wanted.ensures, c.len-in-pieces.ensures, c.pieces.invariant.within, c.pieces-test.true);
     }
 

@@ -5,10 +5,10 @@ use Rattle.table_files.proofs.gathering.find_rows.Goals as goal
 
 pub returns-in-Ok-true-clause-told : goal.returns-in-Ok-true-clause-told
 returns-in-Ok-true-clause-told g c =
-    is_found (g.F.Files.holds c.args.files.now) (row_file c.args.name.now.name) _ _ c.in-Ok-true.field-0-test
+    is_found (Unit {0}) (g.F.Files.holds c.args.files.now) (row_file c.args.name.now.name) _ c.args.name.now.span tt _ c.in-Ok-true.field-0-test
     (c.as_str-2.ensures ∙ c.in_ok-file.ensures ∙ ap row_file c.as_str.ensures) c.in-Ok-true.ensures.found
 
 pub returns-in-Ok-false-clause-told : goal.returns-in-Ok-false-clause-told
 returns-in-Ok-false-clause-told g c =
-    is_not_found (g.F.Files.holds c.args.files.now) (row_file c.args.name.now.name) _ c.args.name.now.span _ c.in-Ok-false.field-0-test
+    is_not_found (Unit {0}) (g.F.Files.holds c.args.files.now) (row_file c.args.name.now.name) _ c.args.name.now.span _ c.in-Ok-false.field-0-test
     (c.as_str-2.ensures ∙ c.in_ok-file.ensures ∙ ap row_file c.as_str.ensures) c.in-Ok-false.ensures.found

@@ -7,7 +7,7 @@ pub returns-in-Ok-Some-clause-told : goal.returns-in-Ok-Some-clause-told
 returns-in-Ok-Some-clause-told g c =
     let file = c.in_ok-file.ensures ∙ ap row_file c.as_str.ensures in
     rw c.in-Ok-Some.table-is (rows_some (g.F.Files.holds c.args.files.now) c.args.source.now _ c.in-Ok-Some.field-0 c.in-Ok-Some.table c.in-Ok-Some.field-0-is
-    (c.as_str-2.ensures ∙ file) c.in-Ok-Some.ensures.loaded c.in-Ok-Some.ensures.within)
+    (c.as_str-2.ensures ∙ file) c.in-Ok-Some.ensures.loaded)
 
 pub returns-in-Ok-None-clause-told : goal.returns-in-Ok-None-clause-told
 returns-in-Ok-None-clause-told g c =
