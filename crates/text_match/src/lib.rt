@@ -8,6 +8,6 @@ mod regexes;
 mod tests;
 mod wildcards;
 
-pub use wildcards::like;
 pub use patterns::Patterns;
 pub use regexes::{FreeRegex, WholeRegex};
+pub use wildcards::like;

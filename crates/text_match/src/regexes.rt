@@ -43,7 +43,11 @@ impl WholeRegex {
     ///
     /// Refused: what is not readable, one of the two being so; what is too large, where the maker counted a refusal and noted
     /// the text that it refused, one of the two; and want of memory.
-    pub fn new<M: Maker>(alloc: Global, maker: &mut M, pattern: &str) -> Result<WholeRegex, PatternError>
+    pub fn new<M: Maker>(
+        alloc: Global,
+        maker: &mut M,
+        pattern: &str,
+    ) -> Result<WholeRegex, PatternError>
         ensures text { IfOk result (λ whole. whole ≡ wrapped pattern.now) }
         ensures readable { OnOk result (IsReadable pattern.now) }
         ensures wrap_readable { OnOk result (IsReadable (wrapped pattern.now)) }
@@ -101,7 +105,11 @@ impl FreeRegex {
     ///
     /// Refused: a pattern that is not readable; one that is too large, where the maker counted a refusal and noted the pattern;
     /// and want of memory.
-    pub fn new<M: Maker>(alloc: Global, maker: &mut M, pattern: &str) -> Result<FreeRegex, PatternError>
+    pub fn new<M: Maker>(
+        alloc: Global,
+        maker: &mut M,
+        pattern: &str,
+    ) -> Result<FreeRegex, PatternError>
         ensures text { IfOk result (λ free. free ≡ pattern.now) }
         ensures readable { OnOk result (IsReadable pattern.now) }
         ensures not_read { result ≡ Err PatternError.NotRead → IsUnreadable pattern.now }

@@ -40,7 +40,12 @@ fn whole_texts(rt: HostRuntime) -> Result<(), Fail> {
     assert!(rt; !regex.matches(rt.alloc(), "ab123")?);
     let either = WholeRegex::new(rt.alloc(), &mut maker, "a|b")?;
     assert!(rt; !either.matches(rt.alloc(), "ac")?);
-    assert!(rt; matches!(WholeRegex::new(rt.alloc(), &mut maker, "a)|(b"), Err(PatternError::NotRead)));
+    assert!(rt;
+        matches!(
+            WholeRegex::new(rt.alloc(), &mut maker, "a)|(b"),
+            Err(PatternError::NotRead)
+        )
+    );
     Ok(())
 }
 
@@ -66,8 +71,18 @@ fn a_maker_that_refuses(rt: HostRuntime) -> Result<(), Fail> {
     failing.push(0)?;
     failing.push(2)?;
     let mut maker = CrateMaker::new(failing);
-    assert!(rt; matches!(FreeRegex::new(rt.alloc(), &mut maker, "a"), Err(PatternError::TooLarge)));
-    assert!(rt; matches!(WholeRegex::new(rt.alloc(), &mut maker, "b"), Err(PatternError::TooLarge)));
+    assert!(rt;
+        matches!(
+            FreeRegex::new(rt.alloc(), &mut maker, "a"),
+            Err(PatternError::TooLarge)
+        )
+    );
+    assert!(rt;
+        matches!(
+            WholeRegex::new(rt.alloc(), &mut maker, "b"),
+            Err(PatternError::TooLarge)
+        )
+    );
     let regex = FreeRegex::new(rt.alloc(), &mut maker, "c")?;
     let mut patterns = Patterns {
         whole: Seq::new(rt.alloc()),

@@ -20,7 +20,10 @@ fn match_front<'p, 't>(mut pattern: &'p str, mut text: &'t str) -> Front<'p, 't>
 {
     while let Some((part, behind)) = cut_part(pattern) {
         match part {
-            Part::AnyRun => return Front::Run { pattern: behind, text },
+            Part::AnyRun => return Front::Run {
+                pattern: behind,
+                text,
+            },
             Part::AnyOne => match cut_char(text) {
                 Some((_, rest)) => text = rest,
                 None => return Front::Differs,
@@ -79,7 +82,10 @@ fn end_is_like(mut pattern: &str, mut text: &str) -> bool
                 Some((_, rest)) => text = rest,
                 None => return false,
             },
-            Front::Run { pattern: behind, text: rest } => {
+            Front::Run {
+                pattern: behind,
+                text: rest,
+            } => {
                 pattern = behind;
                 text = rest;
             }

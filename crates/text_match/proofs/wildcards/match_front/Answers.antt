@@ -17,8 +17,8 @@ returns-in_default-cut_char c =
     let part = next_is _ _ _ _ c.in-Some.ensures c.in-Itself.is in
     stood_same _ _ _ _ c.loop-part.invariant.2
     ∙ (elim c.in_default-cut_char.branch [
-      in_default-cut_char-via-in-Some-cut_char-2+else-character-own w ↦
-        other_differs _ _ _ _ c.in-Itself.own _ part w.in-Some-cut_char-2.ensures w.if-character-own.false
+      | in_default-cut_char-via-in-Some-cut_char-2+else-character-own w ↦
+          other_differs _ _ _ _ c.in-Itself.own _ part w.in-Some-cut_char-2.ensures w.if-character-own.false
       | in_default-cut_char-via-in_default-cut_char w ↦ none_differs _ _ _ c.in-Itself.own part w.in_default-cut_char.ensures
     ])
 
@@ -34,7 +34,7 @@ loop-part-preserved c = (
   search rules,
   search rules,
   itself_stood _ _ _ _ _ _ c.in-Itself.own _ (next_is _ _ _ _ c.in-Some.ensures c.in-Itself.is) c.in-Some-cut_char-2.ensures c.if-character-own.true
-    c.loop-part.invariant.2,
+      c.loop-part.invariant.2,
 )
 
 pub returns-then-is_empty : goal.returns-then-is_empty
