@@ -1,5 +1,5 @@
 -- The rows of a file that was read, over files that may not tell what they hold.
-use Rattle.std.proofs.Common.{◌≡◌, ℕ, ◌≤◌, List, length, Option, Some, None, Ok, Err, refl, ap, sym, subst, ◌∙◌}
+use Rattle.std.proofs.Common.{◌≡◌, ℕ, ◌≤◌, List, length, Option, Some, None, Ok, Err, sym, subst}
 use Rattle.std.specs.Option.{IfSome, IsSomeAnd}
 use Rattle.esql_types.specs.declared.value.Value.{Value as CellValue}
 use Rattle.esql_io.specs.Files.{Held}

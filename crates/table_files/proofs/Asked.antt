@@ -1,7 +1,7 @@
 -- The files that are asked for, one name or table after another.
-use Rattle.std.proofs.Common.{◌≡◌, ℕ, ◌+◌, List, [], ◌∷◌, length, Result, Ok, Err, Some, sym, subst, inl, inr}
+use Rattle.std.proofs.Common.{◌≡◌, ℕ, ◌+◌, List, [], ◌∷◌, length, Ok, sym, subst, inl, inr}
 use Rattle.esql_io.specs.Files.{Held}
-use Rattle.esql_io.specs.Calls.{NoneFailed, OneFailed}
+use Rattle.esql_io.specs.Calls.{NoneFailed}
 use Rattle.esql_io.proofs.Calls.{none_then, one_then}
 use Rattle.esql_ast.specs.declared.query.NameAt.{NameAt}
 use Rattle.table_files.specs.declared.stop.TableSource.{TableSource}

@@ -1,5 +1,5 @@
 -- Over files that do not tell what they hold, what a name stands for and the rows of its table are those of one content.
-use Rattle.std.proofs.Common.{◌≡◌, ◌⊎◌, inl, inr, ℕ, List, Option, Some, Result, Ok, Err, refl}
+use Rattle.std.proofs.Common.{◌≡◌, ◌⊎◌, inl, inr, ℕ, Some, Result, Ok, Err, refl}
 use Rattle.esql_ast.specs.declared.query.NameAt.{NameAt}
 use Rattle.ndjson_load.specs.Over.{BytesOf}
 use Rattle.table_files.specs.declared.stop.TableSource.{TableSource}

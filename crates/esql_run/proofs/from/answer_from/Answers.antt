@@ -2,8 +2,6 @@ use Rattle.std.proofs.Common.{◌≤◌, length, List, sym, subst, ap, ◌∙◌
 use Rattle.esql_types.specs.declared.names.Column.{Column}
 use Rattle.esql_io.proofs.Calls.{none_yet, none_then}
 use Rattle.table_files.specs.Asked.{AskedToFind, AskedToLoad}
-use Rattle.table_files.specs.declared.stop.TableSource.{TableSource}
-use Rattle.table_files.specs.Catalog.{Rows}
 use Rattle.esql_run.specs.Bytes.{refused}
 use Rattle.esql_run.specs.From.{columns_of, AskedByFrom, to_find}
 use Rattle.esql_run.proofs.Froms.{gather_halted, load_halted, no_column, all_loaded, empty_columns, some_columns, wide_for, shown_for, few_columns, source_fits, called_stop, asks_rows}
