@@ -15,6 +15,8 @@ mod numbers;
 mod result;
 mod single;
 mod singles;
+#[cfg(test)]
+mod tests;
 mod unary;
 mod values;
 
