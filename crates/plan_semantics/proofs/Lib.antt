@@ -1,0 +1,4 @@
+pub mod Splits
+pub mod Agreeing
+pub mod Reading
+pub mod Keeps
