@@ -4,3 +4,4 @@ pub mod Reading
 pub mod Keeps
 pub mod PartedFolds
 pub mod Transposed
+pub mod Failing
