@@ -5,3 +5,5 @@ pub mod Keeps
 pub mod PartedFolds
 pub mod Transposed
 pub mod Failing
+pub mod FailingSteps
+pub mod OwnNodes
