@@ -7,3 +7,4 @@ pub mod Transposed
 pub mod Failing
 pub mod FailingSteps
 pub mod OwnNodes
+pub mod ResultKinds
