@@ -8,3 +8,5 @@ pub mod Failing
 pub mod FailingSteps
 pub mod OwnNodes
 pub mod ResultKinds
+pub mod ValueKinds
+pub mod RowKinds

@@ -207,16 +207,16 @@ module _ {Item : Type 0} (test : Item → Bool) where
   abbrev Pass : List Item → Type 0
   Pass items = list_all test items ≡ true
 
-  pass_first : (item : Item) (items : List Item) → Pass (item ∷ items) → test item ≡ true
+  pub pass_first : (item : Item) (items : List Item) → Pass (item ∷ items) → test item ≡ true
   pass_first item items pass = (and_parts (test item) (list_all test items) pass).0
 
-  pass_rest : (item : Item) (items : List Item) → Pass (item ∷ items) → Pass items
+  pub pass_rest : (item : Item) (items : List Item) → Pass (item ∷ items) → Pass items
   pass_rest item items pass = (and_parts (test item) (list_all test items) pass).1
 
   pass_both : (item : Item) (items : List Item) → test item ≡ true → Pass items → Pass (item ∷ items)
   pass_both item items own rest = and_from (test item) (list_all test items) own rest
 
-  pass_one : (item : Item) → test item ≡ true → Pass (item ∷ [])
+  pub pass_one : (item : Item) → test item ≡ true → Pass (item ∷ [])
   pass_one item own = pass_both item [] own refl
 
   pass_append : (xs ys : List Item) → Pass xs → Pass ys → Pass (xs ++ ys)
@@ -301,7 +301,7 @@ module _ {Item : Type 0} (test : Item → Bool) where
 abbrev pub Has : Kind → List Value → Type 0
 Has kind cell = has_kind kind cell ≡ true
 
-abbrev has_test : Kind → Value → Bool
+abbrev pub has_test : Kind → Value → Bool
 has_test kind value = same_kind (kind_of_value value) kind
 
 module _ (kind : Kind) where

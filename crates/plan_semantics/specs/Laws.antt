@@ -1,17 +1,20 @@
 -- What the laws of plans say.
-use Rattle.std.specs.List.{flat_map}
+use Rattle.std.specs.List.{flat_map, AllZip}
 use Rattle.std.specs.Prelude.{◌≡◌, ℕ, Bool, true, List, [], ◌∷◌, ◌++◌, All, if◌then◌else◌}
+use Rattle.esql_plan.specs.declared.catalog.Catalog.{Catalog}
 use Rattle.esql_plan.specs.declared.plan.Plan.{Plan}
+use Rattle.esql_plan.specs.declared.plan.OutColumn.{OutColumn}
 use Rattle.esql_plan.specs.declared.step.Step.{Step}
+use Rattle.esql_plan.specs.declared.step.Step.TheVariants.{Eval, Filter, Sort, TopN, Limit, Expand, Stats, Dissect, Grok, Enrich}
 use Rattle.esql_plan.specs.declared.typed.TypedExpr.{TypedExpr}
 use Rattle.esql_plan.specs.Values.{NumberedRow, value_of_typed}
-use Rattle.esql_plan.specs.Fits.{ReadColumn, columns_read}
-use Rattle.plan_semantics.specs.Steps.{step_gives, rows_after, failures_after}
+use Rattle.esql_plan.specs.Fits.{ReadColumn, ExprFits, RowFits, columns_read, has_kind}
+use Rattle.plan_semantics.specs.Steps.{step_gives, step_rows, rows_after, failures_after}
 use Rattle.plan_semantics.specs.Agrees.{PlanSeen, Agrees, AgreeAtNodes}
 use Rattle.plan_semantics.specs.Plans.{plan_means}
 use Rattle.plan_semantics.specs.Parts.{parted, fails_in, plan_parts, IsOrderly, IsExprOrderly}
-use Rattle.plan_semantics.specs.Tables.{TableHeld}
-use Rattle.plan_semantics.specs.WellFormed.{Bounds, MadeColumn, StepStands, HaveOwnNodes}
+use Rattle.plan_semantics.specs.Tables.{TableHeld, catalog_tables, source_rows}
+use Rattle.plan_semantics.specs.WellFormed.{Bounds, MadeColumn, StepStands, StepsStand, HaveOwnNodes, RowHas, steps_made, IsTable, IsWellFormed}
 
 -- Steps one after another ----------------------------------------------------------------------------------------------------
 
@@ -78,3 +81,49 @@ PlanFailsByParts = (plan : Plan) (tables : List TableHeld) → IsOrderly plan ta
 -- a plan in which no two parts have one node is orderly on all tables
 abbrev pub OwnNodesAreOrderly : Type 0
 OwnNodesAreOrderly = (plan : Plan) → HaveOwnNodes plan.steps → (tables : List TableHeld) → IsOrderly plan tables
+
+-- Kinds ---------------------------------------------------------------------------------------------------------------------------------
+
+-- the value of a well formed expression, on a row with cells of their kinds in the columns that it reads, has its kind
+abbrev pub ValuesHaveTheirKind : Type 0
+ValuesHaveTheirKind = (whole free : List (List ℕ)) (expr : TypedExpr) (row : NumberedRow)
+    → ExprFits whole free expr → RowFits expr row → has_kind expr.kind (value_of_typed expr row).cell ≡ true
+
+-- the rows after steps have a cell of its kind in each column that is made
+abbrev pub RowsKeepKinds : Type 0
+RowsKeepKinds = (bounds : Bounds) (output : List OutColumn) (made : List MadeColumn) (steps : List Step) → StepsStand bounds output made steps
+    → (rows : List NumberedRow) → All (RowHas made) rows → All (RowHas (steps_made made steps)) (rows_after steps rows)
+
+-- the expression of a step fits a row that comes to it
+abbrev pub StepFits : Step → NumberedRow → Type 0
+StepFits (Eval to expr) row = RowFits expr row
+StepFits (Filter node condition) row = RowFits condition row
+StepFits (Expand id to) row = Unit {0}
+StepFits (Sort keys) row = Unit {0}
+StepFits (TopN keys count) row = Unit {0}
+StepFits (Limit count) row = Unit {0}
+StepFits (Stats aggregates groups) row = Unit {0}
+StepFits (Dissect node input cutter to) row = Unit {0}
+StepFits (Grok node input cutter to) row = Unit {0}
+StepFits (Enrich policy on fields to) row = Unit {0}
+
+-- the expression of each step fits each row that comes to it
+abbrev pub StepsFit : List Step → List NumberedRow → Type 0
+StepsFit [] rows = Unit {0}
+StepsFit (step ∷ steps) rows = All (StepFits step) rows × StepsFit steps (step_rows step rows)
+
+-- tables of the catalog, with cells of their columns' kinds
+pub record AreTables (catalog : Catalog) (tables : List TableHeld) : Type 0 where
+  pub shapes : catalog.tables ≡ catalog_tables tables
+  pub kinds : All IsTable tables
+
+-- over tables of the catalog each expression of a well formed plan fits each row that it is evaluated on
+abbrev pub PlansFitRows : Type 0
+PlansFitRows = (catalog : Catalog) (whole free : List (List ℕ)) (plan : Plan) (tables : List TableHeld)
+    → IsWellFormed catalog whole free plan → AreTables catalog tables → StepsFit plan.steps (source_rows tables plan.source)
+
+-- over tables of the catalog a well formed plan shows rows with a cell of its kind for each of its columns
+abbrev pub PlansShowKinds : Type 0
+PlansShowKinds = (catalog : Catalog) (whole free : List (List ℕ)) (plan : Plan) (tables : List TableHeld)
+    → IsWellFormed catalog whole free plan → AreTables catalog tables
+    → All (λ cells. AllZip (λ column cell. has_kind column.kind cell ≡ true) (plan_means plan tables).columns cells) (plan_means plan tables).rows

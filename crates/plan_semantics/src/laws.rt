@@ -1,6 +1,6 @@
 //! Laws of plans.
 
-ghost use Rattle.plan_semantics.specs.Laws.{RowsSplit, FailuresSplit, ReadsItsColumns, StepsKeep, EachAgrees, AgreeBack, AgreeThrough, EqualAgree, FailsByRows, FailsByParts, PlanFailsByParts, OwnNodesAreOrderly};
+ghost use Rattle.plan_semantics.specs.Laws.{RowsSplit, FailuresSplit, ReadsItsColumns, StepsKeep, EachAgrees, AgreeBack, AgreeThrough, EqualAgree, FailsByRows, FailsByParts, PlanFailsByParts, OwnNodesAreOrderly, ValuesHaveTheirKind, RowsKeepKinds, PlansFitRows, PlansShowKinds};
 
 /// A law: the rows after steps and others behind them are the rows after the others of the rows after the first.
 pub fn rows_split()
@@ -61,4 +61,25 @@ pub fn plans_fail_by_parts()
 /// A law: a plan in which no two parts have one node is orderly on all tables.
 pub fn own_nodes_are_orderly()
     ensures { OwnNodesAreOrderly }
+{}
+
+/// A law: the value of a well formed expression has its kind, on a row with cells of their kinds in the columns that it
+/// reads.
+pub fn values_have_their_kind()
+    ensures { ValuesHaveTheirKind }
+{}
+
+/// A law: the rows after the steps of a well formed plan have a cell of its kind in each column that is made.
+pub fn rows_keep_kinds()
+    ensures { RowsKeepKinds }
+{}
+
+/// A law: over tables of the catalog each expression of a well formed plan fits each row that it is evaluated on.
+pub fn plans_fit_rows()
+    ensures { PlansFitRows }
+{}
+
+/// A law: over tables of the catalog a well formed plan shows rows with a cell of its kind for each of its columns.
+pub fn plans_show_kinds()
+    ensures { PlansShowKinds }
 {}
