@@ -1,5 +1,5 @@
 -- To agree is an equivalence.
-use Rattle.std.proofs.Common.{◌≡◌, refl, ap, sym, subst, ◌∙◌}
+use Rattle.std.proofs.Common.{◌≡◌, refl, ap, sym, ◌∙◌}
 use Rattle.plan_semantics.specs.Agrees.{PlanSeen, Agrees, causes_at}
 
 pub Agrees-itself : (this : PlanSeen) → Agrees this this

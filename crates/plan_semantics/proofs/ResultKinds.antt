@@ -1,5 +1,5 @@
 -- The kinds of what functions give whose result has the kind of their arguments.
-use Rattle.std.proofs.Common.{◌≡◌, ℕ, ◌+◌, ℤ, option_map, zero, suc, ◌==◌, ◌≤◌, nat_le, Bool, true, false, ◌&&◌, List, [], ◌∷◌, ◌++◌, map, length, take, drop, filter, replicate, All, Option, Some, None, Result, Ok, Err, refl, ap, sym, subst, ◌∙◌, arith, if◌then◌else◌, inl, inr}
+use Rattle.std.proofs.Common.{◌≡◌, ℕ, ◌+◌, ℤ, option_map, zero, suc, ◌≤◌, nat_le, Bool, true, false, ◌&&◌, List, [], ◌∷◌, ◌++◌, map, length, take, drop, filter, replicate, All, Option, Some, None, Result, Ok, Err, refl, ap, sym, subst, ◌∙◌, arith, if◌then◌else◌, inl, inr}
 use Rattle.std.specs.Prelude.{◌||◌, ◌⊎◌, not, pos, negsuc}
 use Rattle.std.specs.List.{list_all, list_any, AllZip}
 use Rattle.std.proofs.lemmas.Bool.{and_parts, and_from}
@@ -26,7 +26,7 @@ use Rattle.esql_plan.specs.declared.function.Function.TheVariants as function
 use Rattle.esql_plan.specs.Rules.{Given, Arguments, are, null, several, with_argument, arguments_of, given_arguments, given_singles, given_list, given_lists, given_nothing, is_null, is_integer, number_of, first_cell, later_cells, truth_in}
 use Rattle.esql_plan.specs.Functions.{of_one, of_two, alone, are_integers, bits_of, number_given, arithmetic_rule, neg_rule, abs_rule, sum_given, sum_rule, greatest_rule, least_rule, first_rule, last_rule, dedupe_rule, sort_rule, sort_desc_rule, append_rule, slice_rule}
 use Rattle.esql_plan.specs.Values.{Valued, behind, cells_of, applied, case_of, coalesce_of, is_met}
-use Rattle.esql_plan.specs.Signatures.{Want, a_boolean, a_keyword, a_number, a_value, an_ordered, like_pattern, whole_pattern, free_pattern, OneKinds, no_kinds, Argument, arguments, arguments_in, argument_fits, one_kind, with_kind, first_misfit, kinds_in, misfit, kind_of_call, same_kind, kind_place, is_one_kind, joined_kind, meets, branch_wants, these, signature_of, least_count, most_count, is_at_most, is_count}
+use Rattle.esql_plan.specs.Signatures.{Want, a_boolean, a_keyword, a_number, a_value, an_ordered, like_pattern, whole_pattern, free_pattern, OneKinds, no_kinds, Argument, arguments, argument_fits, one_kind, with_kind, first_misfit, kinds_in, misfit, kind_of_call, same_kind, kind_place, is_one_kind, joined_kind, meets, branch_wants, these, signature_of, is_count}
 use Rattle.esql_plan.specs.Fits.{has_kind}
 use Rattle.esql_plan.proofs.KindsGiven.{always_kind}
 
@@ -142,14 +142,14 @@ pub first_fits : (widens : Bool) (so_far : OneKinds) (argument : Argument) (rest
     → FirstFits widens so_far argument rest
 first_fits widens so_far argument rest none = by_case (argument_fits widens so_far argument) refl
   where
-  by_case : (b : Bool) → argument_fits widens so_far argument ≡ b → FirstFits widens so_far argument rest
-  by_case true is = record {
-    own = is;
-    others = no_misfit (first_misfit widens (with_kind argument.want argument.kind so_far) rest)
-      (sym (ap (λ (b : Bool). if b then option_map (λ (place : ℕ). place + 1) (first_misfit widens (with_kind argument.want argument.kind so_far) rest) else Some 0) is) ∙ none);
-  }
-  by_case false is = absurd (let some : Some 0 ≡ None =
-    sym (ap (λ (b : Bool). if b then option_map (λ (place : ℕ). place + 1) (first_misfit widens (with_kind argument.want argument.kind so_far) rest) else Some 0) is) ∙ none in cc)
+    by_case : (b : Bool) → argument_fits widens so_far argument ≡ b → FirstFits widens so_far argument rest
+    by_case true is = record {
+      own = is;
+      others = no_misfit (first_misfit widens (with_kind argument.want argument.kind so_far) rest)
+          (sym (ap (λ (b : Bool). if b then option_map (λ (place : ℕ). place + 1) (first_misfit widens (with_kind argument.want argument.kind so_far) rest) else Some 0) is) ∙ none);
+    }
+    by_case false is = absurd (let some : Some 0 ≡ None =
+        sym (ap (λ (b : Bool). if b then option_map (λ (place : ℕ). place + 1) (first_misfit widens (with_kind argument.want argument.kind so_far) rest) else Some 0) is) ∙ none in cc)
 
 -- what is within the kinds so far is within them with one more argument
 pub record Grows (so_far : OneKinds) (argument : Argument) : Type 0 where
@@ -225,9 +225,10 @@ module _ {Item : Type 0} (test : Item → Bool) where
   pass_filter : (keep : Item → Bool) (items : List Item) → Pass items → Pass (filter keep items)
   pass_filter keep [] pass = refl
   pass_filter keep (item ∷ items) pass =
-      elim (keep item) as (λ b. Pass (if b then item ∷ filter keep items else filter keep items))
-      [ true ↦ pass_both item (filter keep items) (pass_first item items pass) (pass_filter keep items (pass_rest item items pass))
-      | false ↦ pass_filter keep items (pass_rest item items pass) ]
+      elim (keep item) as (λ b. Pass (if b then item ∷ filter keep items else filter keep items)) [
+        | true ↦ pass_both item (filter keep items) (pass_first item items pass) (pass_filter keep items (pass_rest item items pass))
+        | false ↦ pass_filter keep items (pass_rest item items pass)
+      ]
 
   pass_take : (count : ℕ) (items : List Item) → Pass items → Pass (take count items)
   pass_take zero items pass = refl
@@ -274,9 +275,10 @@ module _ {Item : Type 0} (test : Item → Bool) where
     pass_put : (item : Item) (items : List Item) → test item ≡ true → Pass items → Pass (put_in_order order item items)
     pass_put item [] own pass = pass_one item own
     pass_put item (first ∷ rest) own pass =
-        elim (is_gt (order item first)) as (λ b. Pass (if b then first ∷ put_in_order order item rest else item ∷ first ∷ rest))
-        [ true ↦ pass_both first (put_in_order order item rest) (pass_first first rest pass) (pass_put item rest own (pass_rest first rest pass))
-        | false ↦ pass_both item (first ∷ rest) own pass ]
+        elim (is_gt (order item first)) as (λ b. Pass (if b then first ∷ put_in_order order item rest else item ∷ first ∷ rest)) [
+          | true ↦ pass_both first (put_in_order order item rest) (pass_first first rest pass) (pass_put item rest own (pass_rest first rest pass))
+          | false ↦ pass_both item (first ∷ rest) own pass
+        ]
 
     pub pass_sorted : (items : List Item) → Pass items → Pass (sorted_by order items)
     pass_sorted [] pass = refl
@@ -350,9 +352,10 @@ module _ (kind : Kind) where
   coalesce_has : (parts : List Valued) → All (λ (part : Valued). Has kind part.cell) parts → Has kind (coalesce_of parts).cell
   coalesce_has [] all = refl
   coalesce_has (part ∷ parts) all =
-      elim (is_null part.cell) as (λ b. Has kind (if b then behind part.failures (coalesce_of parts) else part).cell)
-      [ true ↦ coalesce_has parts (All-tail (λ (part : Valued). Has kind part.cell) part parts all)
-      | false ↦ All-head (λ (part : Valued). Has kind part.cell) part parts all ]
+      elim (is_null part.cell) as (λ b. Has kind (if b then behind part.failures (coalesce_of parts) else part).cell) [
+        | true ↦ coalesce_has parts (All-tail (λ (part : Valued). Has kind part.cell) part parts all)
+        | false ↦ All-head (λ (part : Valued). Has kind part.cell) part parts all
+      ]
 
 -- the cells of parts have their kinds
 abbrev pub HaveKinds : List Kind → List Valued → Type 0
@@ -384,9 +387,10 @@ case_has wide node (kind ∷ []) (part ∷ next ∷ parts) have within = absurd 
 case_has wide node (kind ∷ next ∷ kinds) (part ∷ []) have within = absurd have.1
 case_has wide node (first ∷ kind ∷ kinds) (condition ∷ part ∷ rest) have within =
     let behind_it = All-tail (ArgumentWithin wide) (record { want = a_boolean; kind = first }) (arguments (a_value ∷ branch_wants (length kinds)) (kind ∷ kinds)) within in
-    elim (is_met (truth_in condition.cell)) as (λ b. Has wide (if b then part else case_of node rest).cell)
-    [ true ↦ within_has kind wide part.cell (All-head (ArgumentWithin wide) (record { want = a_value; kind = kind }) (arguments (branch_wants (length kinds)) kinds) behind_it) have.1.0
-    | false ↦ case_has wide node kinds rest have.1.1 (All-tail (ArgumentWithin wide) (record { want = a_value; kind = kind }) (arguments (branch_wants (length kinds)) kinds) behind_it) ]
+    elim (is_met (truth_in condition.cell)) as (λ b. Has wide (if b then part else case_of node rest).cell) [
+      | true ↦ within_has kind wide part.cell (All-head (ArgumentWithin wide) (record { want = a_value; kind = kind }) (arguments (branch_wants (length kinds)) kinds) behind_it) have.1.0
+      | false ↦ case_has wide node kinds rest have.1.1 (All-tail (ArgumentWithin wide) (record { want = a_value; kind = kind }) (arguments (branch_wants (length kinds)) kinds) behind_it)
+    ]
 
 -- numbers ----------------------------------------------------------------------------------------------------------------------------------
 
@@ -540,7 +544,7 @@ arithmetic_kind op (first ∷ second ∷ []) (left ∷ right ∷ []) have count 
     let meets_second = first_meets true (with_kind a_number first no_kinds) a_number second [] one.others in
     two_given (joined_kind first second) (arithmetic_rule op) left.cell right.cell
     (λ this that is also.
-      arithmetic_has op first second this that (subst (Has first) is have.0) (subst (Has second) also have.1.0) meets_first meets_second)
+    arithmetic_has op first second this that (subst (Has first) is have.0) (subst (Has second) also have.1.0) meets_first meets_second)
 
 -- one number
 number_kind_of : (rule : Value → Given) → ((kind : Kind) (value : Value) → Has kind (value ∷ []) → meets a_number kind ≡ true → Has kind (rule value).cell)
@@ -559,9 +563,9 @@ sum_list_has : (kind : Kind) (list : List Value) (cells : List (List Value)) →
 sum_list_has kind [] cells has fits = refl
 sum_list_has kind (value ∷ rest) cells has fits = given_has kind (alone sum_rule (value ∷ rest)) by_values (arguments_of cells)
   where
-  by_values : (values : List Value) → Has kind (alone sum_rule (value ∷ rest) values).cell
-  by_values [] = sum_rule_has kind value rest has fits
-  by_values (other ∷ values) = refl
+    by_values : (values : List Value) → Has kind (alone sum_rule (value ∷ rest) values).cell
+    by_values [] = sum_rule_has kind value rest has fits
+    by_values (other ∷ values) = refl
 
 sum_kind : (kinds : List Kind) (parts : List Valued) → HaveKinds kinds parts → first_misfit false no_kinds (arguments (a_number ∷ []) kinds) ≡ None
     → Has (kinds_in no_kinds (arguments (a_number ∷ []) kinds)).numbers (given_list (alone sum_rule) (first_cell (cells_of parts)) (later_cells (cells_of parts))).cell

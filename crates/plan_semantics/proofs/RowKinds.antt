@@ -1,6 +1,6 @@
 -- The rows of a well formed plan have cells of their kinds in the columns that are made.
-use Rattle.std.proofs.Common.{◌≡◌, ℕ, zero, suc, ◌==◌, ◌<◌, Bool, true, false, List, [], ◌∷◌, ◌++◌, map, take, length, All, Option, Some, None, option_map, slice_get, refl, ap, sym, subst, ◌∙◌, arith, if◌then◌else◌}
-use Rattle.std.specs.Prelude.{Contains, IfSome}
+use Rattle.std.proofs.Common.{◌≡◌, ℕ, zero, suc, ◌==◌, Bool, true, false, List, [], ◌∷◌, map, All, Option, Some, None, option_map, slice_get, refl, ap, sym, subst, ◌∙◌, arith, if◌then◌else◌}
+use Rattle.std.specs.Prelude.{IfSome}
 use Rattle.std.specs.List.{flat_map, AllZip, AllByRecursion, IsDistinct}
 use Rattle.std.specs.Str.{bytes_eq}
 use Rattle.std.specs.Ordering.{is_gt}
@@ -31,7 +31,7 @@ use Rattle.plan_semantics.specs.Steps.{is_true, expanded, step_gives, step_rows,
 use Rattle.plan_semantics.specs.Plans.{columns_of, shown_row}
 use Rattle.plan_semantics.specs.WellFormed.{Bounds, MadeColumn, made_as, IsMadeAs, IsMade, IsNew, kind_made, source_made, step_made, steps_made, ExprStands, StepStands, StepsStand, SourceStands, IsScannedAs, kind_named, bounds_of, IsWellFormed, IsTable, RowHas}
 use Rattle.plan_semantics.specs.Laws.{IsKept, StepFits, StepsFit, AreTables}
-use Rattle.plan_semantics.proofs.Keeps.{kept_at_new, kept_itself}
+use Rattle.plan_semantics.proofs.Keeps.{kept_at_new}
 use Rattle.plan_semantics.proofs.ResultKinds.{Has, pass_one, pass_first, pass_rest, has_test}
 use Rattle.plan_semantics.proofs.ValueKinds.{value_has_kind}
 
@@ -45,9 +45,10 @@ module _ {Item : Type 0} (P : Item → Type 0) (order : Item → Item → Orderi
   all_put : (item : Item) (items : List Item) → P item → All P items → All P (put_in_order order item items)
   all_put item [] own all = All-cons P item [] own all
   all_put item (first ∷ rest) own all =
-      elim (is_gt (order item first)) as (λ b. All P (if b then first ∷ put_in_order order item rest else item ∷ first ∷ rest))
-      [ true ↦ All-cons P first (put_in_order order item rest) (All-head P first rest all) (all_put item rest own (All-tail P first rest all))
-      | false ↦ All-cons P item (first ∷ rest) own all ]
+      elim (is_gt (order item first)) as (λ b. All P (if b then first ∷ put_in_order order item rest else item ∷ first ∷ rest)) [
+        | true ↦ All-cons P first (put_in_order order item rest) (All-head P first rest all) (all_put item rest own (All-tail P first rest all))
+        | false ↦ All-cons P item (first ∷ rest) own all
+      ]
 
   pub all_sorted : (items : List Item) → All P items → All P (sorted_by order items)
   all_sorted [] all = all
@@ -99,15 +100,15 @@ made_has : (made : List MadeColumn) (id : ColId) (row : NumberedRow) → IsMade 
 made_has [] id row is has = absurd (omega (arith, is.1))
 made_has (column ∷ made) id row is has = by_case (id.0 == column.id) refl (made_has made id row)
   where
-  by_case : (b : Bool) → id.0 == column.id ≡ b → (IsMade made id → RowHas made row → Has (kind_made made id) (row id.0)) → Has (if id.0 == column.id then column.kind else kind_made made id) (row id.0)
-  by_case true here rest =
-      let same : column.id ≡ id.0 = grind (arith, here) in
-      subst (λ (b : Bool). Has (if b then column.kind else kind_made made id) (row id.0)) (sym here)
-      (subst (λ number. Has column.kind (row number)) same (All-head (HasColumn row) column made has))
-  by_case false here rest =
-      let other : column.id ≡ id.0 → ⊥ = λ same. (let no : false ≡ true = sym here ∙ ap (λ number. id.0 == number) same ∙ own_number id.0 in cc) in
-      subst (λ (b : Bool). Has (if b then column.kind else kind_made made id) (row id.0)) (sym here)
-      (rest (Contains-tail column.id (map (λ (column : MadeColumn). column.id) made) id.0 other is) (All-tail (HasColumn row) column made has))
+    by_case : (b : Bool) → id.0 == column.id ≡ b → (IsMade made id → RowHas made row → Has (kind_made made id) (row id.0)) → Has (if id.0 == column.id then column.kind else kind_made made id) (row id.0)
+    by_case true here rest =
+        let same : column.id ≡ id.0 = grind (arith, here) in
+        subst (λ (b : Bool). Has (if b then column.kind else kind_made made id) (row id.0)) (sym here)
+        (subst (λ number. Has column.kind (row number)) same (All-head (HasColumn row) column made has))
+    by_case false here rest =
+        let other : column.id ≡ id.0 → ⊥ = λ same. (let no : false ≡ true = sym here ∙ ap (λ number. id.0 == number) same ∙ own_number id.0 in cc) in
+        subst (λ (b : Bool). Has (if b then column.kind else kind_made made id) (row id.0)) (sym here)
+        (rest (Contains-tail column.id (map (λ (column : MadeColumn). column.id) made) id.0 other is) (All-tail (HasColumn row) column made has))
 
 -- steps ------------------------------------------------------------------------------------------------------------------------------------
 
@@ -220,8 +221,8 @@ named_has [] cells scanned fits gives = refl
 named_has (column ∷ columns) [] scanned fits gives = refl
 named_has (column ∷ columns) (cell ∷ cells) scanned fits gives =
     elim (bytes_eq column.name scanned.name) as (λ b. IfSome (if b then Some column.kind else kind_named columns scanned.name) (λ kind. kind ≡ scanned.kind)
-      → (GivesScanKind columns scanned → Has scanned.kind (cell_named columns cells scanned.name))
-      → Has scanned.kind (if b then cell else cell_named columns cells scanned.name))
+    → (GivesScanKind columns scanned → Has scanned.kind (cell_named columns cells scanned.name))
+    → Has scanned.kind (if b then cell else cell_named columns cells scanned.name))
     [ true ↦ λ same rest. subst (λ kind. Has kind cell) same fits.0 | false ↦ λ later rest. rest later ] gives (named_has columns cells scanned fits.1)
 
 abbrev scan_made : List ScanColumn → List MadeColumn
@@ -276,9 +277,9 @@ source_kinds catalog bounds tables shapes all OneRow stands = All-cons (RowHas [
 source_kinds catalog bounds tables shapes all (Scan numbers scanned) stands =
     all_flat (IsScannedAs catalog scanned) (RowHas (scan_made scanned)) (λ number. scan_table scanned (slice_get tables number))
     (λ number is.
-      scanned_of scanned stands.once (slice_get tables number) (found_table tables number all (slice_get tables number) refl)
-      (subst (λ found. IfSome found (λ shape. All (GivesScanKind shape.columns) scanned))
-        (ap (λ these. slice_get these number) shapes ∙ slice_get-map (λ (table : TableHeld). table.shape) tables number) is.kinds))
+    scanned_of scanned stands.once (slice_get tables number) (found_table tables number all (slice_get tables number) refl)
+    (subst (λ found. IfSome found (λ shape. All (GivesScanKind shape.columns) scanned))
+    (ap (λ these. slice_get these number) shapes ∙ slice_get-map (λ (table : TableHeld). table.shape) tables number) is.kinds))
     numbers stands.tables
 
 -- plans ------------------------------------------------------------------------------------------------------------------------------------------
@@ -299,4 +300,4 @@ module _ (catalog : Catalog) (whole free : List (List ℕ)) (plan : Plan) (table
       let rows = rows_after plan.steps (source_rows tables plan.source) in
       All-map (λ cells. AllZip CellFits (columns_of plan.output) cells) (shown_row plan.output) rows
       (All-weaker (RowHas made) (λ row. AllZip CellFits (columns_of plan.output) (shown_row plan.output row))
-        (λ row has. shown_kinds made row has plan.output (shown_made (bounds_of whole free plan) plan.output (source_made plan.source) plan.steps well.steps)) rows plan_kinds)
+      (λ row has. shown_kinds made row has plan.output (shown_made (bounds_of whole free plan) plan.output (source_made plan.source) plan.steps well.steps)) rows plan_kinds)

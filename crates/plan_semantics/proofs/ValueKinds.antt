@@ -1,20 +1,17 @@
 -- The value of an expression that is well formed has its kind.
 use Rattle.std.proofs.Common.{◌≡◌, ℕ, suc, true, List, [], ◌∷◌, map, length, All, Option, Some, None, refl, ap, sym, subst, ◌∙◌}
-use Rattle.std.specs.List.{flat_map, AllZip}
-use Rattle.std.proofs.lemmas.List.Elements.{All-nil, All-cons, All-head, All-tail}
-use Rattle.esql_types.specs.declared.value.Value.{Value}
+use Rattle.std.proofs.lemmas.List.Elements.{All-head, All-tail}
 use Rattle.esql_types.specs.declared.value.Kind.{Kind}
-use Rattle.esql_types.specs.declared.names.NodeId.{NodeId}
 use Rattle.esql_plan.specs.declared.function.Function.{Function}
 use Rattle.esql_plan.specs.declared.typed.TypedExpr.{TypedExpr}
 use Rattle.esql_plan.specs.declared.typed.TypedForm.TheVariants.{Apply}
-use Rattle.esql_plan.specs.Signatures.{signature_of, is_count, misfit, kind_of_call, kind_unless, result_kind, same_kind}
-use Rattle.esql_plan.specs.Values.{Valued, NumberedRow, silent, applied, value_of_typed}
+use Rattle.esql_plan.specs.Signatures.{signature_of, is_count, misfit, kind_of_call, kind_unless}
+use Rattle.esql_plan.specs.Values.{Valued, NumberedRow, applied, value_of_typed}
 use Rattle.esql_plan.specs.Fits.{Part, ExprFits, RowFits, ReadColumn, part_of, is_result, columns_read, has_kind}
-use Rattle.esql_plan.proofs.TypedFolds.{map_map, part_of_constant, part_of_column, part_of_call, value_of_constant, value_of_column, value_of_call, columns_of_column, columns_of_call}
+use Rattle.esql_plan.proofs.TypedFolds.{part_of_constant, part_of_column, part_of_call, value_of_constant, value_of_column, value_of_call, columns_of_column, columns_of_call}
 use Rattle.esql_plan.proofs.Fitting.{fits_call, call_parts}
 use Rattle.esql_plan.proofs.Inductions.{typed_ind}
-use Rattle.plan_semantics.proofs.Reading.{map_all, parts_read}
+use Rattle.plan_semantics.proofs.Reading.{parts_read}
 use Rattle.plan_semantics.proofs.ResultKinds.{Has, HaveKinds, kinds_same, result_has_kind}
 
 -- what is seen of an expression has its kind
@@ -48,7 +45,7 @@ module _ (whole free : List (List ℕ)) (row : NumberedRow) where
   all_kinds [] gives fits rows = tt
   all_kinds (arg ∷ args) gives fits rows = (
     subst (λ kind. Has kind (value_of_typed arg row).cell) (sym (part_kind whole free arg))
-      (All-head GivesKind arg args gives (All-head (ExprFits whole free) arg args fits) (All-head (λ expr. RowFits expr row) arg args rows)),
+        (All-head GivesKind arg args gives (All-head (ExprFits whole free) arg args fits) (All-head (λ expr. RowFits expr row) arg args rows)),
     all_kinds args (All-tail GivesKind arg args gives) (All-tail (ExprFits whole free) arg args fits) (All-tail (λ expr. RowFits expr row) arg args rows),
   )
 
