@@ -10,3 +10,6 @@ pub mod OwnNodes
 pub mod ResultKinds
 pub mod ValueKinds
 pub mod RowKinds
+pub mod RowByRow
+pub mod Standing
+pub mod Orderly
