@@ -59,10 +59,10 @@ module _ (test : NumberedRow → Bool) (row : NumberedRow) where
 
 module _ (node : NodeId) (row : NumberedRow) where
   -- how many parts fail at the node
-  abbrev fails : List FalliblePart → ℕ
+  abbrev pub fails : List FalliblePart → ℕ
   fails parts = count_of (fails_at node) (on parts row)
 
-  abbrev causes : List Failure → List Cause
+  abbrev pub causes : List Failure → List Cause
   causes failures = causes_at node failures
 
   -- what the value fails with at the node is what the parts do, where one of them fails at most
@@ -76,7 +76,7 @@ module _ (node : NodeId) (row : NumberedRow) where
   caused-append xs ys = ap causes (flat_map-append (λ (part : FalliblePart). part row) xs ys) ∙ causes-append node (fails_in xs row) (fails_in ys row)
 
   -- parts of which none fails
-  none_fails : (parts : List FalliblePart) → fails parts ≤ 0 → causes (fails_in parts row) ≡ []
+  pub none_fails : (parts : List FalliblePart) → fails parts ≤ 0 → causes (fails_in parts row) ≡ []
   none_fails [] none = refl
   none_fails (part ∷ parts) none =
       causes-append node (part row) (fails_in parts row)

@@ -13,3 +13,4 @@ pub mod RowKinds
 pub mod RowByRow
 pub mod Standing
 pub mod Orderly
+pub mod Below

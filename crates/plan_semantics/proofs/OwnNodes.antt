@@ -131,7 +131,7 @@ step_own (Enrich policy on fields to) = tt
 
 module _ (node : NodeId) where
   -- how often a node is among others
-  abbrev places : List NodeId → ℕ
+  abbrev pub places : List NodeId → ℕ
   places nodes = count_of (λ (one : NodeId). one.0 == node.0) nodes
 
   both_quiet : (xs ys : List Failure) → fails_at node xs ≡ false → fails_at node ys ≡ false → fails_at node (xs ++ ys) ≡ false
@@ -150,7 +150,7 @@ module _ (node : NodeId) where
   one_counts false true so = absurd (let no : true ≡ false = so refl in cc)
   one_counts false false so = omega arith
 
-  parts_count : (nodes : List NodeId) (parts : List FalliblePart) → AreOf nodes parts → (rows : List NumberedRow) → count_of (fails_at node) (over_rows parts rows) ≤ places nodes
+  pub parts_count : (nodes : List NodeId) (parts : List FalliblePart) → AreOf nodes parts → (rows : List NumberedRow) → count_of (fails_at node) (over_rows parts rows) ≤ places nodes
   parts_count [] [] are rows = omega arith
   parts_count [] (part ∷ parts) are rows = absurd are
   parts_count (own ∷ nodes) [] are rows = absurd are
@@ -161,7 +161,7 @@ module _ (node : NodeId) where
         parts_count nodes parts are.1 rows,
       )
 
-  steps_count : (steps : List Step) (rows : List NumberedRow) → count_of (fails_at node) (parts_after steps rows) ≤ places (flat_map step_nodes steps)
+  pub steps_count : (steps : List Step) (rows : List NumberedRow) → count_of (fails_at node) (parts_after steps rows) ≤ places (flat_map step_nodes steps)
   steps_count [] rows = omega arith
   steps_count (step ∷ steps) rows =
       omega (

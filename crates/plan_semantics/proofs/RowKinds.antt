@@ -29,8 +29,8 @@ use Rattle.plan_semantics.specs.Tables.{TableHeld, catalog_tables, cell_named, e
 use Rattle.plan_semantics.specs.Orders.{order_of_rows}
 use Rattle.plan_semantics.specs.Steps.{is_true, expanded, step_gives, step_rows, rows_after}
 use Rattle.plan_semantics.specs.Plans.{columns_of, shown_row}
-use Rattle.plan_semantics.specs.WellFormed.{Bounds, MadeColumn, made_as, IsMadeAs, IsMade, IsNew, kind_made, source_made, step_made, steps_made, ExprStands, StepStands, StepsStand, SourceStands, IsScannedAs, kind_named, bounds_of, IsWellFormed, IsTable, RowHas}
-use Rattle.plan_semantics.specs.Laws.{IsKept, StepFits, StepsFit, AreTables}
+use Rattle.plan_semantics.specs.WellFormed.{Bounds, MadeColumn, made_as, IsMadeAs, IsMade, IsNew, kind_made, source_made, step_made, steps_made, ExprStands, StepStands, StepsStand, SourceStands, IsScannedAs, kind_named, bounds_of, IsWellFormed, IsTable, AreTables, StepFits, StepsFit, RowHas}
+use Rattle.plan_semantics.specs.Laws.{IsKept}
 use Rattle.plan_semantics.proofs.Keeps.{kept_at_new}
 use Rattle.plan_semantics.proofs.ResultKinds.{Has, pass_one, pass_first, pass_rest, has_test}
 use Rattle.plan_semantics.proofs.ValueKinds.{value_has_kind}

@@ -1,6 +1,7 @@
 -- What the laws of plans say.
 use Rattle.std.specs.List.{flat_map, AllZip}
-use Rattle.std.specs.Prelude.{◌≡◌, ℕ, true, List, [], ◌∷◌, ◌++◌, All}
+use Rattle.std.specs.Prelude.{◌≡◌, ◌<◌, ℕ, true, List, [], ◌∷◌, ◌++◌, All}
+use Rattle.esql_types.specs.declared.cause.Failure.{Failure}
 use Rattle.esql_plan.specs.declared.catalog.Catalog.{Catalog}
 use Rattle.esql_plan.specs.declared.plan.Plan.{Plan}
 use Rattle.esql_plan.specs.declared.plan.OutColumn.{OutColumn}
@@ -14,7 +15,7 @@ use Rattle.plan_semantics.specs.Agrees.{PlanSeen, Agrees, AgreeAtNodes}
 use Rattle.plan_semantics.specs.Plans.{plan_means}
 use Rattle.plan_semantics.specs.Parts.{parted, fails_in, plan_parts, IsOrderly, IsExprOrderly}
 use Rattle.plan_semantics.specs.Tables.{TableHeld, catalog_tables, source_rows}
-use Rattle.plan_semantics.specs.WellFormed.{Bounds, MadeColumn, StepStands, StepsStand, HaveOwnNodes, RowHas, steps_made, IsTable, IsWellFormed}
+use Rattle.plan_semantics.specs.WellFormed.{Bounds, MadeColumn, StepStands, StepsStand, HaveOwnNodes, RowHas, steps_made, AreTables, StepsFit, IsWellFormed, ExprStands}
 
 -- Steps one after another ----------------------------------------------------------------------------------------------------
 
@@ -94,29 +95,6 @@ abbrev pub RowsKeepKinds : Type 0
 RowsKeepKinds = (bounds : Bounds) (output : List OutColumn) (made : List MadeColumn) (steps : List Step) → StepsStand bounds output made steps
     → (rows : List NumberedRow) → All (RowHas made) rows → All (RowHas (steps_made made steps)) (rows_after steps rows)
 
--- the expression of a step fits a row that comes to it
-abbrev pub StepFits : Step → NumberedRow → Type 0
-StepFits (Eval to expr) row = RowFits expr row
-StepFits (Filter node condition) row = RowFits condition row
-StepFits (Expand id to) row = Unit {0}
-StepFits (Sort keys) row = Unit {0}
-StepFits (TopN keys count) row = Unit {0}
-StepFits (Limit count) row = Unit {0}
-StepFits (Stats aggregates groups) row = Unit {0}
-StepFits (Dissect node input cutter to) row = Unit {0}
-StepFits (Grok node input cutter to) row = Unit {0}
-StepFits (Enrich policy on fields to) row = Unit {0}
-
--- the expression of each step fits each row that comes to it
-abbrev pub StepsFit : List Step → List NumberedRow → Type 0
-StepsFit [] rows = Unit {0}
-StepsFit (step ∷ steps) rows = All (StepFits step) rows × StepsFit steps (step_rows step rows)
-
--- tables of the catalog, with cells of their columns' kinds
-pub record AreTables (catalog : Catalog) (tables : List TableHeld) : Type 0 where
-  pub shapes : catalog.tables ≡ catalog_tables tables
-  pub kinds : All IsTable tables
-
 -- over tables of the catalog each expression of a well formed plan fits each row that it is evaluated on
 abbrev pub PlansFitRows : Type 0
 PlansFitRows = (catalog : Catalog) (whole free : List (List ℕ)) (plan : Plan) (tables : List TableHeld)
@@ -127,3 +105,17 @@ abbrev pub PlansShowKinds : Type 0
 PlansShowKinds = (catalog : Catalog) (whole free : List (List ℕ)) (plan : Plan) (tables : List TableHeld)
     → IsWellFormed catalog whole free plan → AreTables catalog tables
     → All (λ cells. AllZip (λ column cell. has_kind column.kind cell ≡ true) (plan_means plan tables).columns cells) (plan_means plan tables).rows
+
+-- the failures of nodes below a number
+abbrev pub AreBelow : ℕ → List Failure → Type 0
+AreBelow nodes failures = All (λ failure. failure.node.0 < nodes) failures
+
+-- an expression of a well formed plan fails at nodes below the plan's number
+abbrev pub ValuesFailBelow : Type 0
+ValuesFailBelow = (bounds : Bounds) (made : List MadeColumn) (expr : TypedExpr) → ExprStands bounds made expr
+    → (row : NumberedRow) → AreBelow bounds.nodes (value_of_typed expr row).failures
+
+-- a well formed plan fails at nodes below its number, on all tables
+abbrev pub PlansFailBelow : Type 0
+PlansFailBelow = (catalog : Catalog) (whole free : List (List ℕ)) (plan : Plan) → IsWellFormed catalog whole free plan
+    → (tables : List TableHeld) → AreBelow plan.nodes (plan_means plan tables).failures

@@ -1,6 +1,6 @@
 //! Laws of plans.
 
-ghost use Rattle.plan_semantics.specs.Laws.{RowsSplit, FailuresSplit, ReadsItsColumns, StepsKeep, EachAgrees, AgreeBack, AgreeThrough, EqualAgree, FailsByRows, FailsByParts, PlanFailsByParts, OwnNodesAreOrderly, ValuesHaveTheirKind, RowsKeepKinds, PlansFitRows, PlansShowKinds};
+ghost use Rattle.plan_semantics.specs.Laws.{RowsSplit, FailuresSplit, ReadsItsColumns, StepsKeep, EachAgrees, AgreeBack, AgreeThrough, EqualAgree, FailsByRows, FailsByParts, PlanFailsByParts, OwnNodesAreOrderly, ValuesHaveTheirKind, RowsKeepKinds, PlansFitRows, PlansShowKinds, ValuesFailBelow, PlansFailBelow};
 
 /// A law: the rows after steps and others behind them are the rows after the others of the rows after the first.
 pub fn rows_split()
@@ -82,4 +82,14 @@ pub fn plans_fit_rows()
 /// A law: over tables of the catalog a well formed plan shows rows with a cell of its kind for each of its columns.
 pub fn plans_show_kinds()
     ensures { PlansShowKinds }
+{}
+
+/// A law: an expression of a well formed plan fails at nodes below the plan's number alone.
+pub fn values_fail_below()
+    ensures { ValuesFailBelow }
+{}
+
+/// A law: a well formed plan fails at nodes below its number alone, on all tables.
+pub fn plans_fail_below()
+    ensures { PlansFailBelow }
 {}
