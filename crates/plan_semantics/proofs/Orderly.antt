@@ -1,8 +1,7 @@
 -- What is orderly in an orderly plan.
-use Rattle.std.proofs.Common.{◌≡◌, ℕ, ◌+◌, ◌≤◌, List, [], ◌∷◌, ◌++◌, map, refl, ap, ◌∙◌, arith}
+use Rattle.std.proofs.Common.{◌≤◌, List, [], ◌∷◌, ◌++◌, ap, arith}
 use Rattle.std.specs.List.{flat_map}
 use Rattle.std.proofs.lemmas.List.{map-append}
-use Rattle.esql_types.specs.declared.cause.Failure.{Failure}
 use Rattle.esql_types.specs.declared.names.ColId.{ColId}
 use Rattle.esql_types.specs.declared.names.NodeId.{NodeId}
 use Rattle.esql_plan.specs.declared.typed.TypedExpr.{TypedExpr}
@@ -32,7 +31,9 @@ orderly_eval to expr steps rows orderly = orderly_first (Eval to expr) steps row
 
 pub orderly_condition : (own : NodeId) (condition : TypedExpr) (steps : List Step) (rows : List NumberedRow) → AreOrderly (Filter own condition ∷ steps) rows → IsExprOrderly condition rows
 orderly_condition own condition steps rows orderly node =
-    omega (arith,
+    omega (
+      arith,
       orderly_first (Filter own condition) steps rows orderly node,
       ap (count_of (fails_at node)) (map-append (λ (part : FalliblePart). flat_map part rows) (parted condition).parts (condition_part own condition ∷ [])),
-      count_of-append (fails_at node) (over_rows (parted condition).parts rows) (over_rows (condition_part own condition ∷ []) rows))
+      count_of-append (fails_at node) (over_rows (parted condition).parts rows) (over_rows (condition_part own condition ∷ []) rows),
+    )
