@@ -55,15 +55,19 @@ StepsKeep = (bounds : Bounds) (made : List MadeColumn) (step : Step) → StepSta
 
 -- Plans that agree -----------------------------------------------------------------------------------------------------------------
 
+-- what a plan shows agrees with itself
 abbrev pub EachAgrees : Type 0
 EachAgrees = (this : PlanSeen) → Agrees this this
 
+-- where this agrees with that, that agrees with this
 abbrev pub AgreeBack : Type 0
 AgreeBack = (this that : PlanSeen) → Agrees this that → Agrees that this
 
+-- what agrees with what agrees with a third agrees with that third
 abbrev pub AgreeThrough : Type 0
 AgreeThrough = (this that other : PlanSeen) → Agrees this that → Agrees that other → Agrees this other
 
+-- what is equal agrees
 abbrev pub EqualAgree : Type 0
 EqualAgree = (this that : PlanSeen) → this ≡ that → Agrees this that
 

@@ -13,9 +13,11 @@ use Rattle.esql_plan.specs.Values.{NumberedRow}
 abbrev pub sort_value : PlanKey → List Value → List Value
 sort_value key cell = if key.descending then greatest_of value_cmp cell else least_of value_cmp cell
 
+-- the order of a null and a value
 abbrev pub null_order : Bool → Ordering
 null_order first = if first then Less else Greater
 
+-- the order of a value and a null
 abbrev pub other_order : Bool → Ordering
 other_order first = if first then Greater else Less
 

@@ -48,6 +48,7 @@ abbrev pub parts_of_coalesce : List Parted → List FalliblePart
 parts_of_coalesce [] = []
 parts_of_coalesce (part ∷ rest) = part.parts ++ map (reached (λ row. is_null (part.value row).cell)) (parts_of_coalesce rest)
 
+-- the parts of arguments that each row reaches
 abbrev pub parts_of_all : List Parted → List FalliblePart
 parts_of_all args = flat_map (λ arg. arg.parts) args
 
@@ -89,6 +90,7 @@ own_part function node args row = failures_at node (causes_by (rule_of function)
 
 -- Expressions, steps and plans ------------------------------------------------------------------------------------------------
 
+-- constants and columns cannot fail
 abbrev pub parted_form : TypedForm-F (NodeId → Parted) Parted → NodeId → Parted
 parted_form (Constant cell) node = record { value = λ row. silent cell; parts = [] }
 parted_form (Column id) node = record { value = λ row. silent (row id.0); parts = [] }
@@ -131,6 +133,7 @@ abbrev pub parts_after : List Step → List NumberedRow → List (List Failure)
 parts_after [] rows = []
 parts_after (step ∷ steps) rows = over_rows (step_parts step) rows ++ parts_after steps (step_rows step rows)
 
+-- what each part of a plan fails with over tables
 abbrev pub plan_parts : Plan → List TableHeld → List (List Failure)
 plan_parts plan tables = parts_after plan.steps (source_rows tables plan.source)
 

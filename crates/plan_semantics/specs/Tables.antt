@@ -38,6 +38,7 @@ abbrev pub scan_row : List ScanColumn → List Column → List (List Value) → 
 scan_row [] columns cells = empty_row
 scan_row (scanned ∷ more) columns cells = with_cell (scan_row more columns cells) scanned.to.0 (cell_named columns cells scanned.name)
 
+-- the rows that a scan takes of a table, if it is there
 abbrev pub scan_table : List ScanColumn → Option TableHeld → List NumberedRow
 scan_table scanned None = []
 scan_table scanned (Some table) = map (scan_row scanned table.shape.columns) table.rows

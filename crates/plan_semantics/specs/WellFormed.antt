@@ -31,6 +31,7 @@ pub record MadeColumn : Type 0 where
   pub id : ℕ
   pub kind : Kind
 
+-- a column of this number, made with this kind
 abbrev pub made_as : ColId → Kind → MadeColumn
 made_as id kind = record { id = id.0; kind = kind }
 
@@ -69,12 +70,14 @@ step_made made (Dissect node input cutter to) = made
 step_made made (Grok node input cutter to) = made
 step_made made (Enrich policy on fields to) = made
 
+-- the columns that are made after steps one after another
 abbrev pub steps_made : List MadeColumn → List Step → List MadeColumn
 steps_made made [] = made
 steps_made made (step ∷ steps) = steps_made (step_made made step) steps
 
 -- Expressions ------------------------------------------------------------------------------------------------------------------------
 
+-- only functions have nodes that can fail
 abbrev pub nodes_of_form : TypedForm-F (NodeId → List NodeId) (List NodeId) → NodeId → List NodeId
 nodes_of_form (Constant cell) node = []
 nodes_of_form (Column id) node = []
@@ -164,10 +167,12 @@ pub record ScanStands (catalog : Catalog) (bounds : Bounds) (numbers : List ℕ)
   pub below : All (λ column. column.to.0 < bounds.columns) columns
   pub once : IsDistinct (λ this that. this == that) (map (λ column. column.to.0) columns)
 
+-- a source is well formed for the catalog
 abbrev pub SourceStands : Catalog → Bounds → PlanSource → Type 0
 SourceStands catalog bounds OneRow = Unit {0}
 SourceStands catalog bounds (Scan numbers columns) = ScanStands catalog bounds numbers columns
 
+-- the bounds of a plan over these patterns
 abbrev pub bounds_of : List (List ℕ) → List (List ℕ) → Plan → Bounds
 bounds_of whole free plan = record { whole = whole; free = free; columns = plan.columns; nodes = plan.nodes }
 
