@@ -2,6 +2,7 @@ pub mod Built
 pub mod Forms
 pub mod Kinds
 pub mod Meanings
+pub mod Regulars
 pub mod Rows
 pub mod Scopes
 pub mod Typed
