@@ -3,6 +3,7 @@
 
 mod expr;
 mod laws;
+mod names;
 mod nodes;
 mod numbering;
 mod query;
@@ -16,6 +17,7 @@ pub use expr::{BinaryOp, Expr, Form};
 pub use laws::{
     numbering_keeps_depth, numbering_keeps_fit, numbering_keeps_spans, numbers_in_order,
 };
+pub use names::Renamed;
 pub use nodes::{NodeAt, nodes_of};
 pub use numbering::numbered_query;
 pub use query::{
