@@ -1,0 +1,80 @@
+-- The steps of a plan, as functions of the rows that come to them.
+use Rattle.std.specs.Prelude.{ℕ, Bool, List, [], ◌∷◌, ◌++◌, map, take, if◌then◌else◌}
+use Rattle.std.specs.List.{flat_map}
+use Rattle.esql_types.specs.declared.value.Value.{Value}
+use Rattle.esql_types.specs.declared.cause.Failure.{Failure}
+use Rattle.esql_types.specs.declared.names.NodeId.{NodeId}
+use Rattle.function_rules.specs.Lists.{sorted_by}
+use Rattle.esql_plan.specs.declared.step.Step.{Step}
+use Rattle.esql_plan.specs.declared.step.Step.TheVariants.{Eval, Filter, Sort, TopN, Limit, Expand, Stats, Dissect, Grok, Enrich}
+use Rattle.esql_plan.specs.Rules.{truth_in, multi_of}
+use Rattle.esql_plan.specs.Values.{Valued, NumberedRow, failures_at, is_met, value_of_typed}
+use Rattle.plan_semantics.specs.Tables.{with_cell}
+use Rattle.plan_semantics.specs.Orders.{order_of_rows}
+
+-- the cell of a condition is true; null is not, nor are several values
+abbrev pub is_true : List Value → Bool
+is_true cell = is_met (truth_in cell)
+
+-- a condition of several values is one failure of the node, behind the failures of the condition's value
+abbrev pub failures_of_condition : NodeId → Valued → List Failure
+failures_of_condition node condition = condition.failures ++ failures_at node (multi_of condition.cell)
+
+-- a row for each value, with that value alone at the column number; one row, with null there, where there is none
+abbrev pub expanded : NumberedRow → ℕ → List Value → List NumberedRow
+expanded row id [] = with_cell row id [] ∷ []
+expanded row id (value ∷ values) = map (λ one. with_cell row id (one ∷ [])) (value ∷ values)
+
+-- the rows that a step makes of one row; no plan with one of the last four is run so far
+abbrev pub step_gives : Step → NumberedRow → List NumberedRow
+step_gives (Eval to expr) row = with_cell row to.0 (value_of_typed expr row).cell ∷ []
+step_gives (Filter node condition) row = if is_true (value_of_typed condition row).cell then row ∷ [] else []
+step_gives (Expand id to) row = expanded row to.0 (row id.0)
+step_gives (Sort keys) row = row ∷ []
+step_gives (TopN keys count) row = row ∷ []
+step_gives (Limit count) row = row ∷ []
+step_gives (Stats aggregates groups) row = row ∷ []
+step_gives (Dissect node input cutter to) row = row ∷ []
+step_gives (Grok node input cutter to) row = row ∷ []
+step_gives (Enrich policy on fields to) row = row ∷ []
+
+-- the failures of a step on one row; no plan with one of the last four is run so far
+abbrev pub step_fails : Step → NumberedRow → List Failure
+step_fails (Eval to expr) row = (value_of_typed expr row).failures
+step_fails (Filter node condition) row = failures_of_condition node (value_of_typed condition row)
+step_fails (Expand id to) row = []
+step_fails (Sort keys) row = []
+step_fails (TopN keys count) row = []
+step_fails (Limit count) row = []
+step_fails (Stats aggregates groups) row = []
+step_fails (Dissect node input cutter to) row = []
+step_fails (Grok node input cutter to) row = []
+step_fails (Enrich policy on fields to) row = []
+
+-- The rows after a step: what it makes of each, all in the order of the keys, or the first of them. No plan with one of the
+-- last four is run so far.
+abbrev pub step_rows : Step → List NumberedRow → List NumberedRow
+step_rows (Eval to expr) rows = flat_map (step_gives (Eval to expr)) rows
+step_rows (Filter node condition) rows = flat_map (step_gives (Filter node condition)) rows
+step_rows (Expand id to) rows = flat_map (step_gives (Expand id to)) rows
+step_rows (Sort keys) rows = sorted_by (order_of_rows keys) rows
+step_rows (TopN keys count) rows = take count (sorted_by (order_of_rows keys) rows)
+step_rows (Limit count) rows = take count rows
+step_rows (Stats aggregates groups) rows = rows
+step_rows (Dissect node input cutter to) rows = rows
+step_rows (Grok node input cutter to) rows = rows
+step_rows (Enrich policy on fields to) rows = rows
+
+-- the failures of a step, row after row
+abbrev pub step_failures : Step → List NumberedRow → List Failure
+step_failures step rows = flat_map (step_fails step) rows
+
+-- the rows after steps one after another
+abbrev pub rows_after : List Step → List NumberedRow → List NumberedRow
+rows_after [] rows = rows
+rows_after (step ∷ steps) rows = rows_after steps (step_rows step rows)
+
+-- the failures of steps one after another, step by step
+abbrev pub failures_after : List Step → List NumberedRow → List Failure
+failures_after [] rows = []
+failures_after (step ∷ steps) rows = step_failures step rows ++ failures_after steps (step_rows step rows)

@@ -1,0 +1,187 @@
+-- When a plan is well formed for a catalog and patterns, and when tables are those of their shapes.
+use Rattle.std.specs.Prelude.{◌≡◌, ℕ, ◌==◌, ◌<◌, true, false, List, [], ◌∷◌, ◌++◌, map, length, All, Contains, Option, Some, None, IfSome, slice_get, if◌then◌else◌}
+use Rattle.std.specs.List.{flat_map, AllZip, IsDistinct}
+use Rattle.std.specs.Str.{bytes_eq}
+use Rattle.esql_types.specs.declared.value.Kind.{Kind}
+use Rattle.esql_types.specs.declared.value.Kind.TheVariants.{Boolean, Null}
+use Rattle.esql_types.specs.declared.names.Column.{Column as NamedColumn}
+use Rattle.esql_types.specs.declared.names.ColId.{ColId}
+use Rattle.esql_types.specs.declared.names.NodeId.{NodeId}
+use Rattle.esql_plan.specs.declared.catalog.Catalog.{Catalog}
+use Rattle.esql_plan.specs.declared.typed.TypedExpr.{TypedExpr}
+use Rattle.esql_plan.specs.declared.typed.TypedForm.TheOpen.{TypedForm-F, Constant, Column, Apply}
+use Rattle.esql_plan.specs.declared.typed.TypedForm.TheFolds.{fold-TypedExpr}
+use Rattle.esql_plan.specs.declared.plan.Plan.{Plan}
+use Rattle.esql_plan.specs.declared.plan.PlanSource.{PlanSource}
+use Rattle.esql_plan.specs.declared.plan.PlanSource.TheVariants.{OneRow, Scan}
+use Rattle.esql_plan.specs.declared.plan.ScanColumn.{ScanColumn}
+use Rattle.esql_plan.specs.declared.plan.OutColumn.{OutColumn}
+use Rattle.esql_plan.specs.declared.step.Step.{Step}
+use Rattle.esql_plan.specs.declared.step.Step.TheVariants.{Eval, Filter, Sort, TopN, Limit, Expand, Stats, Dissect, Grok, Enrich}
+use Rattle.esql_plan.specs.Signatures.{is_kind}
+use Rattle.esql_plan.specs.Values.{NumberedRow}
+use Rattle.esql_plan.specs.Fits.{ExprFits, columns_read, has_kind}
+use Rattle.plan_semantics.specs.Tables.{TableHeld}
+
+-- Columns that are made ------------------------------------------------------------------------------------------------------------
+
+-- a column number that is made, with its kind
+pub record MadeColumn : Type 0 where
+  pub id : ℕ
+  pub kind : Kind
+
+abbrev pub made_as : ColId → Kind → MadeColumn
+made_as id kind = record { id = id.0; kind = kind }
+
+-- the column is made, with this kind
+abbrev pub IsMadeAs : List MadeColumn → ColId → Kind → Type 0
+IsMadeAs made id kind = Contains made (made_as id kind)
+
+-- the column is made
+abbrev pub IsMade : List MadeColumn → ColId → Type 0
+IsMade made id = Contains (map (λ column. column.id) made) id.0
+
+-- no column of this number is made
+abbrev pub IsNew : List MadeColumn → ColId → Type 0
+IsNew made id = All (λ column. id.0 == column.id ≡ false) made
+
+-- the kind that a column is made with
+abbrev pub kind_made : List MadeColumn → ColId → Kind
+kind_made [] id = Null
+kind_made (column ∷ made) id = if id.0 == column.id then column.kind else kind_made made id
+
+-- the columns that a source makes
+abbrev pub source_made : PlanSource → List MadeColumn
+source_made OneRow = []
+source_made (Scan tables columns) = map (λ column. made_as column.to column.kind) columns
+
+-- the columns that are made after a step; no plan with one of the last four is run so far
+abbrev pub step_made : List MadeColumn → Step → List MadeColumn
+step_made made (Eval to expr) = made_as to expr.kind ∷ made
+step_made made (Filter node condition) = made
+step_made made (Expand id to) = made_as to (kind_made made id) ∷ made
+step_made made (Sort keys) = made
+step_made made (TopN keys count) = made
+step_made made (Limit count) = made
+step_made made (Stats aggregates groups) = made
+step_made made (Dissect node input cutter to) = made
+step_made made (Grok node input cutter to) = made
+step_made made (Enrich policy on fields to) = made
+
+abbrev pub steps_made : List MadeColumn → List Step → List MadeColumn
+steps_made made [] = made
+steps_made made (step ∷ steps) = steps_made (step_made made step) steps
+
+-- Expressions ------------------------------------------------------------------------------------------------------------------------
+
+abbrev pub nodes_of_form : TypedForm-F (NodeId → List NodeId) (List NodeId) → NodeId → List NodeId
+nodes_of_form (Constant cell) node = []
+nodes_of_form (Column id) node = []
+nodes_of_form (Apply function nodes pattern) node = flat_map (λ these. these) nodes ++ node ∷ []
+
+-- the nodes of the functions in an expression, which alone can fail, those of the arguments first
+abbrev pub nodes_of : TypedExpr → List NodeId
+nodes_of = fold-TypedExpr (NodeId → List NodeId) (List NodeId) nodes_of_form (λ expr. expr.form expr.node)
+
+-- the nodes of a step that can fail; no plan with one of the last four is run so far
+abbrev pub step_nodes : Step → List NodeId
+step_nodes (Eval to expr) = nodes_of expr
+step_nodes (Filter node condition) = nodes_of condition ++ node ∷ []
+step_nodes (Expand id to) = []
+step_nodes (Sort keys) = []
+step_nodes (TopN keys count) = []
+step_nodes (Limit count) = []
+step_nodes (Stats aggregates groups) = []
+step_nodes (Dissect node input cutter to) = []
+step_nodes (Grok node input cutter to) = []
+step_nodes (Enrich policy on fields to) = []
+
+-- no two parts of the steps that can fail have one node
+abbrev pub HaveOwnNodes : List Step → Type 0
+HaveOwnNodes steps = IsDistinct (λ this that. this == that) (map (λ node. node.0) (flat_map step_nodes steps))
+
+-- the texts of patterns, those that are matched against whole texts and those that are searched for in a text, and the numbers
+-- that the numbers of all columns and nodes are below
+pub record Bounds : Type 0 where
+  pub whole : List (List ℕ)
+  pub free : List (List ℕ)
+  pub columns : ℕ
+  pub nodes : ℕ
+
+-- an expression is well formed, and reads columns that are made with the kinds that it takes them for
+pub record ExprStands (bounds : Bounds) (made : List MadeColumn) (expr : TypedExpr) : Type 0 where
+  pub fits : ExprFits bounds.whole bounds.free expr
+  pub reads : All (λ column. IsMadeAs made column.id column.kind) (columns_read expr)
+  pub nodes : All (λ node. node.0 < bounds.nodes) (nodes_of expr)
+
+-- Steps ------------------------------------------------------------------------------------------------------------------------------
+
+-- a step makes a new column
+pub record MakesNew (bounds : Bounds) (made : List MadeColumn) (to : ColId) : Type 0 where
+  pub new : IsNew made to
+  pub below : to.0 < bounds.columns
+
+-- a condition is a boolean or null
+pub record FilterStands (bounds : Bounds) (made : List MadeColumn) (node : NodeId) (condition : TypedExpr) : Type 0 where
+  pub stands : ExprStands bounds made condition
+  pub truth : is_kind Boolean condition.kind ≡ true
+  pub below : node.0 < bounds.nodes
+
+-- a step is well formed over the columns that are made; no plan with one of the last four is well formed so far
+abbrev pub StepStands : Bounds → List MadeColumn → Step → Type 0
+StepStands bounds made (Eval to expr) = ExprStands bounds made expr × MakesNew bounds made to
+StepStands bounds made (Filter node condition) = FilterStands bounds made node condition
+StepStands bounds made (Expand id to) = IsMade made id × MakesNew bounds made to
+StepStands bounds made (Sort keys) = All (λ key. IsMade made key.id) keys
+StepStands bounds made (TopN keys count) = All (λ key. IsMade made key.id) keys
+StepStands bounds made (Limit count) = Unit {0}
+StepStands bounds made (Stats aggregates groups) = ⊥
+StepStands bounds made (Dissect node input cutter to) = ⊥
+StepStands bounds made (Grok node input cutter to) = ⊥
+StepStands bounds made (Enrich policy on fields to) = ⊥
+
+-- each step over the columns that are made before it; in the end those that are shown are made, with their kinds
+abbrev pub StepsStand : Bounds → List OutColumn → List MadeColumn → List Step → Type 0
+StepsStand bounds output made [] = All (λ out. IsMadeAs made out.id out.kind) output
+StepsStand bounds output made (step ∷ steps) = StepStands bounds made step × StepsStand bounds output (step_made made step) steps
+
+-- Sources and plans --------------------------------------------------------------------------------------------------------------------
+
+-- the kind of the column of a name
+abbrev pub kind_named : List NamedColumn → List ℕ → Option Kind
+kind_named [] name = None
+kind_named (column ∷ columns) name = if bytes_eq column.name name then Some column.kind else kind_named columns name
+
+-- the table is there, and gives each column of a scan that it has the scan's kind
+pub record IsScannedAs (catalog : Catalog) (columns : List ScanColumn) (number : ℕ) : Type 0 where
+  pub there : number < length catalog.tables
+  pub kinds : IfSome (slice_get catalog.tables number) (λ table. All (λ column. IfSome (kind_named table.columns column.name) (λ kind. kind ≡ column.kind)) columns)
+
+-- the tables of a scan are in the catalog, and its columns are made once
+pub record ScanStands (catalog : Catalog) (bounds : Bounds) (numbers : List ℕ) (columns : List ScanColumn) : Type 0 where
+  pub tables : All (IsScannedAs catalog columns) numbers
+  pub below : All (λ column. column.to.0 < bounds.columns) columns
+  pub once : IsDistinct (λ this that. this == that) (map (λ column. column.to.0) columns)
+
+abbrev pub SourceStands : Catalog → Bounds → PlanSource → Type 0
+SourceStands catalog bounds OneRow = Unit {0}
+SourceStands catalog bounds (Scan numbers columns) = ScanStands catalog bounds numbers columns
+
+abbrev pub bounds_of : List (List ℕ) → List (List ℕ) → Plan → Bounds
+bounds_of whole free plan = record { whole = whole; free = free; columns = plan.columns; nodes = plan.nodes }
+
+-- The plan is well formed: each column is made once, before its use, and has one kind; its expressions are well formed for the
+-- patterns; its tables are in the catalog; and the numbers of columns and nodes are below the plan's.
+pub record IsWellFormed (catalog : Catalog) (whole free : List (List ℕ)) (plan : Plan) : Type 0 where
+  pub source : SourceStands catalog (bounds_of whole free plan) plan.source
+  pub steps : StepsStand (bounds_of whole free plan) plan.output (source_made plan.source) plan.steps
+
+-- Rows and tables of their kinds ---------------------------------------------------------------------------------------------------------
+
+-- the cell of each column that is made has its kind
+abbrev pub RowHas : List MadeColumn → NumberedRow → Type 0
+RowHas made row = All (λ column. has_kind column.kind (row column.id) ≡ true) made
+
+-- each row has a cell of its kind for each column
+abbrev pub IsTable : TableHeld → Type 0
+IsTable table = All (λ cells. AllZip (λ column cell. has_kind column.kind cell ≡ true) table.shape.columns cells) table.rows
