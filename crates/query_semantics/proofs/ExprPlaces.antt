@@ -31,7 +31,7 @@ use Rattle.row_semantics.specs.declared.rule.NameRule.{NameRule}
 use Rattle.row_semantics.specs.declared.rule.NameRule.TheVariants as rule
 use Rattle.row_semantics.specs.Regulars.{Regular}
 use Rattle.row_semantics.specs.Scopes.{Broken, Standing, elsewhere, in_field, in_aggregate, Scope, column_named, within_aggregate}
-use Rattle.row_semantics.specs.Forms.{Part, Seen, constant, named, same, applied, aggregate, refused, Reader, seen, call_by, call_of, takes, cast_by, list_in_kind, kind_of_list, function_of, like_function, literal_of, part_of_form, part_of, pattern_part, function_in_plan, arguments_in_plan}
+use Rattle.row_semantics.specs.Forms.{Part, Seen, constant, named, same, applied, aggregate, refused, Reader, seen, call_by, call_of, takes, cast_by, list_in_kind, kind_of_list, constant_in, function_of, like_function, literal_of, part_of_form, part_of, pattern_part, function_in_plan, arguments_in_plan}
 use Rattle.row_semantics.specs.Kinds.{Judged, judged, breaks, and_then, kinds_of_parts, kind_of_column, kind_of_applied, regular_in, regular_of, if_accepted, fitting, kind_of_argument, kind_of_aggregate, kind_of_standing, aggregate_fits, aggregate_kind, may_have_star, kind_or_rule}
 use Rattle.query_semantics.specs.Places.{BrokenFits}
 
@@ -153,6 +153,10 @@ list_stands text values (Some kind.Long) span fits = tt
 list_stands text values (Some other) span fits = tt
 list_stands text values None span fits = (All-nil (PartStands text), fits)
 
+constant_stands : (text : List ℕ) (cell : List Value) (span : Span) → SpanFits text span → SeenStands text (constant_in cell span)
+constant_stands text [] span fits = tt
+constant_stands text (value ∷ values) span fits = list_stands text (value ∷ values) (kind_of_list (value ∷ values)) span fits
+
 taken_stands : (text : List ℕ) (row : FunctionRow) (parts : List (Part Judged)) (span : Span) (taken : Bool) → PartsStand text parts → SpanFits text span
     → SeenStands text (cond taken (applied row.function parts) (refused [] rule.BadArguments span))
 taken_stands text row parts span true stand fits = stand
@@ -222,7 +226,7 @@ two : (text : List ℕ) (first second : Part Judged) → PartStands text first �
 two text first second stands also = All-cons (PartStands text) first (second ∷ []) stands (one text second also)
 
 form_stands : (layer : Form-F GoodForm GoodExpr) → FormStands (roll-Form (layer_of layer))
-form_stands (Constant cell kind) = carried (layer_of (Constant cell kind)) [] refl (λ text fits node span own. tt)
+form_stands (Constant cell kind) = carried (layer_of (Constant cell kind)) [] refl (λ text fits node span own. constant_stands text cell span own)
 form_stands (Listed values) = carried (layer_of (Listed values)) [] refl (λ text fits node span own. list_stands text values (kind_of_list values) span own)
 form_stands (Column name) = carried (layer_of (Column name)) [] refl (λ text fits node span own. tt)
 form_stands (Group inner) = carried (layer_of (Group inner)) (spans_of_expr inner.0) refl (λ text fits node span own. inner.1 text fits)
