@@ -11,3 +11,6 @@ pub mod PartsFit
 pub mod NodesFit
 pub mod DepthParts
 pub mod KeepsDepth
+pub mod NameTails
+pub mod NameRuns
+pub mod NameStood
