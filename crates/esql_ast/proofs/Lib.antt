@@ -14,3 +14,5 @@ pub mod KeepsDepth
 pub mod NameTails
 pub mod NameRuns
 pub mod NameStood
+pub mod NamePlaces
+pub mod NameLasts

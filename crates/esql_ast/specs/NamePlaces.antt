@@ -1,5 +1,5 @@
 -- Places counted from a first one, and why KEEP, DROP and RENAME are refused.
-use Rattle.std.specs.Prelude.{◌≡◌, ℕ, ◌+◌, Bool, true, false, List, [], ◌∷◌, Some, if◌then◌else◌}
+use Rattle.std.specs.Prelude.{◌≡◌, ℕ, ◌+◌, Bool, true, false, List, [], ◌∷◌, ◌++◌, Some, if◌then◌else◌}
 use Rattle.esql_ast.specs.declared.kept.NameError.{NameError}
 use Rattle.esql_ast.specs.declared.kept.NameError.TheVariants.{UnknownColumn, NoMatch, Memory}
 use Rattle.esql_ast.specs.declared.names.RenameError.{RenameError}
@@ -8,10 +8,14 @@ use Rattle.esql_ast.specs.declared.query.NamePattern.{NamePattern}
 use Rattle.esql_ast.specs.declared.query.RenamePair.{RenamePair}
 use Rattle.esql_ast.specs.NameRules.{first_unmet, first_missing}
 
+-- a place, if it stays
+abbrev pub place_where : Bool → ℕ → List ℕ
+place_where stays place = if stays then place ∷ [] else []
+
 -- the places of the items that pass the test, where the first is at a place
 abbrev pub places_from : {X : Type 0} → (X → Bool) → ℕ → List X → List ℕ
 places_from test place [] = []
-places_from test place (item ∷ items) = if test item then place ∷ places_from test (place + 1) items else places_from test (place + 1) items
+places_from test place (item ∷ items) = place_where (test item) place ++ places_from test (place + 1) items
 
 -- KEEP or DROP is refused at the first pattern that no name meets: UnknownColumn at a full name, NoMatch at a pattern with `*`
 abbrev pub IsNameRefusal : List (List ℕ) → List NamePattern → NameError → Type 0

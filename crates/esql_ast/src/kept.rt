@@ -1,7 +1,7 @@
 ghost use Rattle.std.specs.Prelude.{◌≡◌, ◌<◌, ◌++◌, [], map, length, None, IfOk, OnOk, MatchResult};
 ghost use Rattle.std.specs.List.{list_any, list_all};
-ghost use Rattle.esql_ast.specs.NameRules.{meets, is_unmet, first_unmet, is_star, rank_of, last_of_rank, winner, is_place, keep_places, is_met, drop_places};
-ghost use Rattle.esql_ast.specs.NamePlaces.{places_from, IsNameRefusal};
+ghost use Rattle.esql_ast.specs.NameRules.{meets, first_unmet, is_star, rank_of, meets_at_rank, last_of_rank, winner, is_place, keep_places, is_met, drop_places};
+ghost use Rattle.esql_ast.specs.NamePlaces.{place_where, places_from, IsNameRefusal};
 
 use crate::{NamePattern, like_name};
 use esql_types::{Seq, Span, Text};
@@ -38,10 +38,10 @@ fn meets(pattern: &NamePattern, name: &str) -> bool
     }
 }
 
-fn is_unmet(pattern: &NamePattern, names: &[Text]) -> bool
-    ensures { result ≡ is_unmet names.now pattern.now }
+fn meets_some(pattern: &NamePattern, names: &[Text]) -> bool
+    ensures { result ≡ list_any (meets pattern.now) names.now }
 {
-    !names.iter().any(|name| meets(pattern, name.as_str()))
+    names.iter().any(|name| meets(pattern, name.as_str()))
 }
 
 fn is_met(patterns: &[NamePattern], name: &str) -> bool
@@ -54,11 +54,16 @@ fn is_met(patterns: &[NamePattern], name: &str) -> bool
 fn check_met(names: &[Text], patterns: &[NamePattern]) -> Result<(), NameError>
     ensures { MatchResult result (λ _. first_unmet names.now patterns.now ≡ None) (IsNameRefusal names.now patterns.now) }
 {
-    match patterns.iter().find(|pattern| is_unmet(pattern, names)) {
-        None => Ok(()),
-        Some(pattern) if pattern.wild => Err(NameError::NoMatch { span: pattern.span }),
-        Some(pattern) => Err(NameError::UnknownColumn { span: pattern.span }),
+    for pattern in patterns {
+        if meets_some(pattern, names) {
+            continue;
+        }
+        if pattern.wild {
+            return Err(NameError::NoMatch { span: pattern.span });
+        }
+        return Err(NameError::UnknownColumn { span: pattern.span });
     }
+    Ok(())
 }
 
 fn is_star(text: &str) -> bool
@@ -79,6 +84,12 @@ fn rank_of(pattern: &NamePattern) -> u8
     }
 }
 
+fn meets_at_rank(rank: u8, name: &str, pattern: &NamePattern) -> bool
+    ensures { result ≡ meets_at_rank rank name.now pattern.now }
+{
+    rank_of(pattern) == rank && meets(pattern, name)
+}
+
 // The place of the rightmost pattern of a rank that meets the name.
 fn last_of_rank(rank: u8, patterns: &[NamePattern], name: &str) -> Option<usize>
     ensures { result ≡ last_of_rank rank patterns.now name.now }
@@ -86,8 +97,7 @@ fn last_of_rank(rank: u8, patterns: &[NamePattern], name: &str) -> Option<usize>
     let mut place = patterns.len();
     while place > 0 {
         place -= 1;
-        let pattern = &patterns[place];
-        if rank_of(pattern) == rank && meets(pattern, name) {
+        if meets_at_rank(rank, name, &patterns[place]) {
             return Some(place);
         }
     }
@@ -129,6 +139,15 @@ fn is_place(winning: usize, won: Option<usize>) -> bool
     }
 }
 
+fn push_where(stays: bool, places: &mut Seq<u32>, place: u32) -> Result<(), AllocError>
+    ensures { OnOk result (places.new ≡ places.old ++ place_where stays place) }
+{
+    if stays {
+        places.push(place)?;
+    }
+    Ok(())
+}
+
 // Adds the places of the names that a pattern wins.
 fn push_won(
     places: &mut Seq<u32>,
@@ -140,9 +159,7 @@ fn push_won(
 {
     let mut place = 0;
     for one in won {
-        if is_place(winning, *one) {
-            places.push(place)?;
-        }
+        push_where(is_place(winning, *one), places, place)?;
         place += 1;
     }
     Ok(())
@@ -187,9 +204,8 @@ pub fn drop_names(
     let mut places = Seq::new(alloc);
     let mut place = 0;
     for name in names.as_slice() {
-        if !is_met(patterns.as_slice(), name.as_str()) {
-            places.push(place)?;
-        }
+        let stays = !is_met(patterns.as_slice(), name.as_str());
+        push_where(stays, &mut places, place)?;
         place += 1;
     }
     Ok(places)

@@ -1,4 +1,4 @@
-ghost use Rattle.std.specs.Prelude.{◌≡◌, ◌<◌, length, None, IfOk, MatchResult};
+ghost use Rattle.std.specs.Prelude.{◌≡◌, ◌<◌, ◌++◌, [], ◌∷◌, length, None, IfOk, OnOk, MatchResult};
 ghost use Rattle.esql_ast.specs.NameRules.{is_named, is_there, placed, stays, with_new_name, rename_pair, renamings, first_missing};
 ghost use Rattle.esql_ast.specs.NamePlaces.{IsRenameRefusal};
 
@@ -74,6 +74,19 @@ fn with_new_name(pair: &RenamePair, column: Renamed) -> Result<Renamed, AllocErr
     Ok(Renamed { name, ..column })
 }
 
+fn push_renamed(
+    columns: &mut Seq<Renamed>,
+    pair: &RenamePair,
+    column: Renamed,
+) -> Result<(), AllocError>
+    ensures { OnOk result (columns.new ≡ columns.old ++ rename_pair (column ∷ []) pair.now) }
+{
+    if stays(pair, &column) {
+        columns.push(with_new_name(pair, column)?)?;
+    }
+    Ok(())
+}
+
 fn rename_pair(
     alloc: Global,
     columns: Seq<Renamed>,
@@ -83,9 +96,7 @@ fn rename_pair(
 {
     let mut left = Seq::new(alloc);
     for column in columns.into_vec() {
-        if stays(pair, &column) {
-            left.push(with_new_name(pair, column)?)?;
-        }
+        push_renamed(&mut left, pair, column)?;
     }
     Ok(left)
 }
