@@ -11,3 +11,8 @@ pub mod PartsFit
 pub mod NodesFit
 pub mod DepthParts
 pub mod KeepsDepth
+pub mod NameTails
+pub mod NameRuns
+pub mod NameStood
+pub mod NamePlaces
+pub mod NameLasts
