@@ -11,7 +11,7 @@ use Rattle.plan_semantics.specs.Steps.{is_true, expanded, step_gives}
 use Rattle.plan_semantics.specs.WellFormed.{Bounds, MadeColumn, IsNew, StepStands}
 use Rattle.plan_semantics.specs.Laws.{IsKept}
 
-other_number : (n m : ℕ) → n == m ≡ false → m == n ≡ false
+pub other_number : (n m : ℕ) → n == m ≡ false → m == n ≡ false
 other_number n m is = grind arith
 
 pub cell_kept : (row : NumberedRow) (id other : ℕ) (cell : List Value) → id == other ≡ false → with_cell row id cell other ≡ row other

@@ -5,3 +5,6 @@ pub mod Keeps
 pub mod PartedFolds
 pub mod Transposed
 pub mod Failing
+pub mod FailingSteps
+pub mod OwnNodes
+pub mod ResultKinds

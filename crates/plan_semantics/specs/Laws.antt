@@ -1,12 +1,17 @@
 -- What the laws of plans say.
+use Rattle.std.specs.List.{flat_map}
 use Rattle.std.specs.Prelude.{◌≡◌, ℕ, Bool, true, List, [], ◌∷◌, ◌++◌, All, if◌then◌else◌}
+use Rattle.esql_plan.specs.declared.plan.Plan.{Plan}
 use Rattle.esql_plan.specs.declared.step.Step.{Step}
 use Rattle.esql_plan.specs.declared.typed.TypedExpr.{TypedExpr}
 use Rattle.esql_plan.specs.Values.{NumberedRow, value_of_typed}
 use Rattle.esql_plan.specs.Fits.{ReadColumn, columns_read}
 use Rattle.plan_semantics.specs.Steps.{step_gives, rows_after, failures_after}
-use Rattle.plan_semantics.specs.Agrees.{PlanSeen, Agrees}
-use Rattle.plan_semantics.specs.WellFormed.{Bounds, MadeColumn, StepStands}
+use Rattle.plan_semantics.specs.Agrees.{PlanSeen, Agrees, AgreeAtNodes}
+use Rattle.plan_semantics.specs.Plans.{plan_means}
+use Rattle.plan_semantics.specs.Parts.{parted, fails_in, plan_parts, IsOrderly, IsExprOrderly}
+use Rattle.plan_semantics.specs.Tables.{TableHeld}
+use Rattle.plan_semantics.specs.WellFormed.{Bounds, MadeColumn, StepStands, HaveOwnNodes}
 
 -- Steps one after another ----------------------------------------------------------------------------------------------------
 
@@ -52,3 +57,24 @@ AgreeThrough = (this that other : PlanSeen) → Agrees this that → Agrees that
 
 abbrev pub EqualAgree : Type 0
 EqualAgree = (this that : PlanSeen) → this ≡ that → Agrees this that
+
+-- Parts that can fail ----------------------------------------------------------------------------------------------------------------
+
+-- over rows on which an expression is orderly, its value fails at each node as its parts do, row by row
+abbrev pub FailsByRows : Type 0
+FailsByRows = (expr : TypedExpr) (rows : List NumberedRow) → IsExprOrderly expr rows
+    → AgreeAtNodes (flat_map (λ row. (value_of_typed expr row).failures) rows) (flat_map (fails_in (parted expr).parts) rows)
+
+-- and part by part, each over all rows
+abbrev pub FailsByParts : Type 0
+FailsByParts = (expr : TypedExpr) (rows : List NumberedRow) → IsExprOrderly expr rows
+    → AgreeAtNodes (flat_map (λ row. (value_of_typed expr row).failures) rows) (flat_map (λ part. flat_map part rows) (parted expr).parts)
+
+-- an orderly plan fails at each node as its parts do, one after another
+abbrev pub PlanFailsByParts : Type 0
+PlanFailsByParts = (plan : Plan) (tables : List TableHeld) → IsOrderly plan tables
+    → AgreeAtNodes (plan_means plan tables).failures (flat_map (λ failures. failures) (plan_parts plan tables))
+
+-- a plan in which no two parts have one node is orderly on all tables
+abbrev pub OwnNodesAreOrderly : Type 0
+OwnNodesAreOrderly = (plan : Plan) → HaveOwnNodes plan.steps → (tables : List TableHeld) → IsOrderly plan tables
