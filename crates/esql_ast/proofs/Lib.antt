@@ -9,6 +9,7 @@ pub mod KeepsFit
 pub mod NumberedQuery
 pub mod PartsFit
 pub mod NodesFit
+pub mod WarnedFit
 pub mod DepthParts
 pub mod KeepsDepth
 pub mod NameTails

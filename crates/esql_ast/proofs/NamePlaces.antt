@@ -149,6 +149,6 @@ find_some_at test zero (y ∷ xs) x less is none passes =
 find_some_at test (suc i) (y ∷ xs) x less is none passes =
     past_first (test y) y (find test (take i xs)) (find test xs) x none (λ none_before. find_some_at test i xs x (omega (arith, less)) is none_before passes)
   where
-  past_first : {B : Type 0} (b : Bool) (y : B) (before all : Option B) (x : B) → cond b (Some y) before ≡ None → (before ≡ None → all ≡ Some x) → cond b (Some y) all ≡ Some x
-  past_first true y before all x none then = absurd cc
-  past_first false y before all x none then = then none
+    past_first : {B : Type 0} (b : Bool) (y : B) (before all : Option B) (x : B) → cond b (Some y) before ≡ None → (before ≡ None → all ≡ Some x) → cond b (Some y) all ≡ Some x
+    past_first true y before all x none then = absurd cc
+    past_first false y before all x none then = then none

@@ -149,11 +149,7 @@ fn push_where(stays: bool, places: &mut Seq<u32>, place: u32) -> Result<(), Allo
 }
 
 // Adds the places of the names that a pattern wins.
-fn push_won(
-    places: &mut Seq<u32>,
-    won: &[Option<usize>],
-    winning: usize,
-) -> Result<(), AllocError>
+fn push_won(places: &mut Seq<u32>, won: &[Option<usize>], winning: usize) -> Result<(), AllocError>
     requires { length won.now < 4294967296 }
     ensures { OnOk result (places.new ≡ places.old ++ places_from (is_place winning) 0 won.now) }
 {
