@@ -9,5 +9,11 @@ pub mod KeepsFit
 pub mod NumberedQuery
 pub mod PartsFit
 pub mod NodesFit
+pub mod WarnedFit
 pub mod DepthParts
 pub mod KeepsDepth
+pub mod NameTails
+pub mod NameRuns
+pub mod NameStood
+pub mod NamePlaces
+pub mod NameLasts

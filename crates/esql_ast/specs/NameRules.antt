@@ -64,9 +64,13 @@ abbrev pub last_place : {X : Type 0} → (X → Bool) → List X → Option ℕ
 last_place test [] = None
 last_place test (item ∷ items) = option_or (option_map (λ place. place + 1) (last_place test items)) (if test item then Some 0 else None)
 
+-- the pattern is of the rank and meets the name
+abbrev pub meets_at_rank : ℕ → List ℕ → NamePattern → Bool
+meets_at_rank rank name pattern = rank_of pattern == rank && meets pattern name
+
 -- the place of the rightmost pattern of a rank that meets the name
 abbrev pub last_of_rank : ℕ → List NamePattern → List ℕ → Option ℕ
-last_of_rank rank patterns name = last_place (λ (pattern : NamePattern). meets pattern name && rank_of pattern == rank) patterns
+last_of_rank rank patterns name = last_place (meets_at_rank rank name) patterns
 
 -- the place of the pattern that wins a name: the rightmost of the highest rank of those that meet it
 abbrev pub winner : List NamePattern → List ℕ → Option ℕ

@@ -1,10 +1,13 @@
 //! Laws of the numbers, the spans and the depth of a query.
 
-ghost use Rattle.std.specs.Prelude.{◌≡◌, ℕ, List};
+ghost use Rattle.std.specs.Prelude.{◌≡◌, ℕ, List, All};
+ghost use Rattle.esql_types.specs.Spans.{SpanFits};
 ghost use Rattle.esql_ast.specs.declared.query.Command.{Command};
+ghost use Rattle.esql_ast.specs.declared.query.Query.{Query};
 ghost use Rattle.esql_ast.specs.declared.query.SourceCommand.{SourceCommand};
 ghost use Rattle.esql_ast.specs.Depths.{depth_of_query};
 ghost use Rattle.esql_ast.specs.Fits.{QueryFits};
+ghost use Rattle.esql_ast.specs.Nodes.{warned_nodes_of};
 ghost use Rattle.esql_ast.specs.Numbering.{numbered_query};
 ghost use Rattle.esql_ast.specs.Laws.{as_it_was, spans_of, IsNumbered};
 
@@ -26,4 +29,9 @@ pub fn numbering_keeps_fit()
 /// A law: the deepest expression of a query is as deep once the query is numbered.
 pub fn numbering_keeps_depth()
     ensures { (source : SourceCommand) (commands : List Command) → depth_of_query (numbered_query source commands) ≡ depth_of_query (as_it_was source commands) }
+{}
+
+/// A law: where the spans of a query are parts of its text, so are the places where its failures are said to be.
+pub fn warned_places_fit()
+    ensures { (text : List ℕ) (query : Query) → QueryFits text query → All (λ place. SpanFits text place.span) (warned_nodes_of query) }
 {}

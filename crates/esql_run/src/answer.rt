@@ -15,7 +15,7 @@ use crate::query::{Unread, read_query};
 use crate::rendered::{Rendered, Unanswered, refuse};
 use crate::rows::cells_of_rows;
 use answer_text::{not_built, unknown_column, usage, warnings};
-use esql_ast::{Query, SourceCommand, nodes_of};
+use esql_ast::{Query, SourceCommand, warned_nodes_of};
 use esql_io::Files;
 use esql_types::{Text, text_at};
 use row_queries::{AnswerError, Ran, Table, first_unbuilt, meaning_of};
@@ -116,7 +116,7 @@ fn show(alloc: Global, text: &str, query: &Query, ran: Ran) -> Result<Rendered, 
         table: Table { columns, rows },
         failures,
     } = ran;
-    let nodes = nodes_of(alloc, query)?;
+    let nodes = warned_nodes_of(alloc, query)?;
     let rows = cells_of_rows(alloc, rows)?;
     Ok(Rendered {
         status: Status::Done,

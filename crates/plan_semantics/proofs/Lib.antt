@@ -1,0 +1,10 @@
+pub mod Splits
+pub mod Agreeing
+pub mod Reading
+pub mod Keeps
+pub mod PartedFolds
+pub mod Transposed
+pub mod Failing
+pub mod FailingSteps
+pub mod OwnNodes
+pub mod ResultKinds

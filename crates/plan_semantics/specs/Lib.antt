@@ -5,3 +5,4 @@ pub mod Agrees
 pub mod Plans
 pub mod Parts
 pub mod WellFormed
+pub mod Laws

@@ -2,13 +2,13 @@ ghost use Rattle.std.specs.Prelude.{◌≡◌, ◌<◌, ◌++◌, [], List, All,
 ghost use Rattle.std.specs.String.{string_bytes};
 ghost use Rattle.esql_types.specs.declared.cause.Failure.{Failure};
 ghost use Rattle.esql_types.specs.Spans.{SpanFits};
-ghost use Rattle.esql_ast.specs.Nodes.{nodes_of};
+ghost use Rattle.esql_ast.specs.Nodes.{warned_nodes_of};
 ghost use Rattle.answer_text.specs.Warnings.{warned, warned_of};
 ghost use Rattle.warn_log.specs.Logs.{noted, logged, empty_log, kept_at, failures_at, warned_by, LogStands};
 
 use crate::first::FirstCauses;
 use answer_text::push_warnings;
-use esql_ast::{NodeAt, Query, nodes_of};
+use esql_ast::{NodeAt, Query, warned_nodes_of};
 use esql_types::{Cause, NodeId, RowFailure, Seq, Text};
 use std::alloc::{AllocError, Global};
 use std::marker::Model;
@@ -65,11 +65,11 @@ impl Log {
 
     /// The warnings of a query, which are those of any failures that the log stands for.
     pub fn print(&self, alloc: Global, text: &str, query: &Query) -> Result<Text, AllocError>
-        requires { All (λ n. SpanFits text.now n.span) (nodes_of query.now) }
-        ensures log { IfOk result (λ t. t ≡ warned_by text.now (nodes_of query.now) self.now) }
-        ensures failures { (failures : List Failure) → LogStands self.now failures → IfOk result (λ t. t ≡ warned text.now (nodes_of query.now) failures) }
+        requires { All (λ n. SpanFits text.now n.span) (warned_nodes_of query.now) }
+        ensures log { IfOk result (λ t. t ≡ warned_by text.now (warned_nodes_of query.now) self.now) }
+        ensures failures { (failures : List Failure) → LogStands self.now failures → IfOk result (λ t. t ≡ warned text.now (warned_nodes_of query.now) failures) }
     {
-        let nodes = nodes_of(alloc, query)?;
+        let nodes = warned_nodes_of(alloc, query)?;
         let mut out = String::new(alloc);
         for at in nodes.as_slice() {
             self.push_node(alloc, &mut out, text, *at)?;

@@ -1,6 +1,6 @@
 ghost use Rattle.std.specs.Prelude.{All, IfSome};
 ghost use Rattle.esql_types.specs.Spans.{SpanFits};
-ghost use Rattle.esql_ast.specs.Nodes.{nodes_of};
+ghost use Rattle.esql_ast.specs.Nodes.{warned_nodes_of};
 
 use super::*;
 use esql_ast::{Query, SourceCommand};
@@ -10,7 +10,7 @@ use std::test::Fail;
 
 // A query of one command, which is the whole text, where that has no other characters than those of ASCII.
 fn one_command(alloc: Global, text: &str) -> Option<Query>
-    ensures { IfSome result (λ query. All (λ n. SpanFits text.now n.span) (nodes_of query)) }
+    ensures { IfSome result (λ query. All (λ n. SpanFits text.now n.span) (warned_nodes_of query)) }
 {
     if !text.is_ascii() || text.len() >= 4294967295 {
         return None;

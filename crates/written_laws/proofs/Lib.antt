@@ -1,0 +1,6 @@
+pub mod Readings
+pub mod Valued
+pub mod Kinded
+pub mod Squares
+pub mod Named
+pub mod Commands
