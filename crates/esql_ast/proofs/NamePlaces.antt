@@ -57,7 +57,7 @@ where_from : (test : List ℕ → Bool) (first : ℕ) (names : List (List ℕ)) 
 where_from test first [] = refl
 where_from test first (name ∷ names) = first_place (test name) name first _ _ (where_from test (first + 1) names)
 
-places_where_from : (test : List ℕ → Bool) (names : List (List ℕ)) → places_where test names ≡ places_from test 0 names
+pub places_where_from : (test : List ℕ → Bool) (names : List (List ℕ)) → places_where test names ≡ places_from test 0 names
 places_where_from test names = where_from test 0 names
 
 places_from_map : {A B : Type 0} (test : B → Bool) (f : A → B) (first : ℕ) (xs : List A) → places_from test first (map f xs) ≡ places_from (λ x. test (f x)) first xs

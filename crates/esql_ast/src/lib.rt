@@ -18,7 +18,8 @@ mod uses;
 pub use expr::{BinaryOp, Expr, Form};
 pub use kept::{NameError, drop_names, keep_order};
 pub use laws::{
-    numbering_keeps_depth, numbering_keeps_fit, numbering_keeps_spans, numbers_in_order,
+    kept_are_won, kept_differ, kept_once, numbering_keeps_depth, numbering_keeps_fit,
+    numbering_keeps_spans, numbers_in_order, renamed_differ,
 };
 pub use like::like_name;
 pub use names::{RenameError, Renamed, rename_pairs};
