@@ -177,7 +177,7 @@ once_below false = omega arith
 at_most_once : (names : List (List ℕ)) (patterns : List NamePattern) (place : ℕ) (at : Option (List ℕ)) → slice_get names place ≡ at → count_of place (keep_places names patterns) ≤ 1
 at_most_once names patterns place None is =
     let never = count_never place (λ winning. places_where (wins patterns winning) names) 0 (length patterns)
-        (λ winning within. count_where (wins patterns winning) names place ∙ ap (once_at (wins patterns winning)) is) in
+    (λ winning within. count_where (wins patterns winning) names place ∙ ap (once_at (wins patterns winning)) is) in
     omega (arith, never)
 at_most_once names patterns place (Some name) is = omega (arith, kept_once names patterns place name is, once_below (is_met patterns name))
 

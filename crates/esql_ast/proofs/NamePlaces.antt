@@ -1,5 +1,5 @@
 -- Places by one more item, and the first item that passes a test.
-use Rattle.std.proofs.Common.{◌≡◌, ℕ, zero, suc, ◌+◌, ◌<◌, ◌||◌, Bool, true, false, not, cond, List, [], ◌∷◌, ◌++◌, length, map, filter, get_or, take, Option, Some, None, refl, sym, ap, ◌∙◌, append_assoc, add-one, arith}
+use Rattle.std.proofs.Common.{◌≡◌, ℕ, zero, suc, ◌+◌, ◌<◌, Bool, true, false, cond, List, [], ◌∷◌, ◌++◌, length, map, filter, get_or, take, Option, Some, None, refl, sym, ap, ◌∙◌, append_assoc, add-one, arith}
 use Rattle.std.proofs.Math.Seq.{take-suc, take-length}
 use Rattle.std.proofs.lemmas.List.{length-take}
 use Rattle.std.specs.Option.{option_or}
@@ -7,7 +7,6 @@ use Rattle.std.specs.List.{find, flat_map, range_with_len}
 use Rattle.std.proofs.lemmas.List.Folds.{find-append}
 use Rattle.esql_ast.specs.NameRules.{Renaming, placed_from, placed, places_where, is_place, winner, wins, keep_places}
 use Rattle.esql_ast.specs.NamePlaces.{place_where, places_from}
-use Rattle.esql_ast.specs.declared.names.Renamed.{Renamed}
 use Rattle.esql_ast.specs.declared.query.NamePattern.{NamePattern}
 
 append_none : {A : Type 0} (xs : List A) → xs ++ [] ≡ xs
@@ -149,6 +148,6 @@ find_some_at test zero (y ∷ xs) x less is none passes =
 find_some_at test (suc i) (y ∷ xs) x less is none passes =
     past_first (test y) y (find test (take i xs)) (find test xs) x none (λ none_before. find_some_at test i xs x (omega (arith, less)) is none_before passes)
   where
-  past_first : {B : Type 0} (b : Bool) (y : B) (before all : Option B) (x : B) → cond b (Some y) before ≡ None → (before ≡ None → all ≡ Some x) → cond b (Some y) all ≡ Some x
-  past_first true y before all x none then = absurd cc
-  past_first false y before all x none then = then none
+    past_first : {B : Type 0} (b : Bool) (y : B) (before all : Option B) (x : B) → cond b (Some y) before ≡ None → (before ≡ None → all ≡ Some x) → cond b (Some y) all ≡ Some x
+    past_first true y before all x none then = absurd cc
+    past_first false y before all x none then = then none

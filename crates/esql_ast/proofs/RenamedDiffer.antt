@@ -3,7 +3,6 @@ use Rattle.std.proofs.Common.{◌≡◌, ℕ, ◌+◌, Bool, true, false, not, c
 use Rattle.std.specs.List.{AllByRecursion, IsDistinct}
 use Rattle.std.specs.Str.{bytes_eq}
 use Rattle.std.proofs.lemmas.Slice.Eq.{bytes_eq-Decides}
-use Rattle.esql_ast.specs.declared.names.Renamed.{Renamed}
 use Rattle.esql_ast.specs.declared.query.RenamePair.{RenamePair}
 use Rattle.esql_ast.specs.NameRules.{Renaming, placed_from, placed, is_named, stays, with_new_name, rename_pair, is_there, with_pair, renamings}
 use Rattle.esql_ast.specs.NameLaws.{names_of, RenamedDiffer}

@@ -12,6 +12,8 @@ mod query;
 #[cfg(test)]
 mod tests;
 #[cfg(test)]
+mod tests_names;
+#[cfg(test)]
 mod tests_uses;
 mod uses;
 

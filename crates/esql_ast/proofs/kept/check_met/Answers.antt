@@ -12,7 +12,7 @@ pub returns-then-pattern : goal.returns-then-pattern
 returns-then-pattern c = (
   c.pattern-item.result,
   find_some_at (is_unmet c.args.names.now) c.loop-pattern.pattern-index c.args.patterns.now c.pattern-item.result (search rules) (search rules) c.loop-pattern.invariant
-    (ap not (sym c.meets_some.ensures ∙ c.if-meets_some.false)),
+      (ap not (sym c.meets_some.ensures ∙ c.if-meets_some.false)),
   c.if-pattern.true,
   refl,
 )
@@ -21,7 +21,7 @@ pub returns-in-loop-pattern : goal.returns-in-loop-pattern
 returns-in-loop-pattern c = (
   c.pattern-item.result,
   find_some_at (is_unmet c.args.names.now) c.loop-pattern.pattern-index c.args.patterns.now c.pattern-item.result (search rules) (search rules) c.loop-pattern.invariant
-    (ap not (sym c.meets_some.ensures ∙ c.if-meets_some.false)),
+      (ap not (sym c.meets_some.ensures ∙ c.if-meets_some.false)),
   c.if-pattern.false,
   refl,
 )
