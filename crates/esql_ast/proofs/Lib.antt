@@ -17,3 +17,6 @@ pub mod NameRuns
 pub mod NameStood
 pub mod NamePlaces
 pub mod NameLasts
+pub mod Winners
+pub mod KeptOnce
+pub mod RenamedDiffer

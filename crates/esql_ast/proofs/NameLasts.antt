@@ -1,5 +1,5 @@
 -- The last place that passes a test, from the end of a list on.
-use Rattle.std.proofs.Common.{◌≡◌, ℕ, zero, suc, ◌+◌, ◌-◌, ◌<◌, ◌≤◌, Bool, true, false, cond, List, [], ◌∷◌, ◌++◌, length, get_or, take, Option, Some, None, refl, sym, ap, ◌∙◌, arith}
+use Rattle.std.proofs.Common.{◌≡◌, ℕ, ◌+◌, ◌-◌, ◌<◌, ◌≤◌, Bool, true, false, cond, List, [], ◌∷◌, ◌++◌, length, get_or, take, Some, None, ap, ◌∙◌, arith}
 use Rattle.std.specs.Option.{option_map, option_or}
 use Rattle.esql_ast.specs.NameRules.{last_place}
 use Rattle.esql_ast.proofs.NamePlaces.{front_more, front_length}

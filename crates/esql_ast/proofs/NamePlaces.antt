@@ -1,5 +1,5 @@
 -- Places by one more item, and the first item that passes a test.
-use Rattle.std.proofs.Common.{◌≡◌, ℕ, zero, suc, ◌+◌, ◌<◌, ◌||◌, Bool, true, false, not, cond, List, [], ◌∷◌, ◌++◌, length, map, filter, get_or, take, Option, Some, None, refl, sym, ap, ◌∙◌, append_assoc, add-one, arith}
+use Rattle.std.proofs.Common.{◌≡◌, ℕ, zero, suc, ◌+◌, ◌<◌, Bool, true, false, cond, List, [], ◌∷◌, ◌++◌, length, map, filter, get_or, take, Option, Some, None, refl, sym, ap, ◌∙◌, append_assoc, add-one, arith}
 use Rattle.std.proofs.Math.Seq.{take-suc, take-length}
 use Rattle.std.proofs.lemmas.List.{length-take}
 use Rattle.std.specs.Option.{option_or}
@@ -7,7 +7,6 @@ use Rattle.std.specs.List.{find, flat_map, range_with_len}
 use Rattle.std.proofs.lemmas.List.Folds.{find-append}
 use Rattle.esql_ast.specs.NameRules.{Renaming, placed_from, placed, places_where, is_place, winner, wins, keep_places}
 use Rattle.esql_ast.specs.NamePlaces.{place_where, places_from}
-use Rattle.esql_ast.specs.declared.names.Renamed.{Renamed}
 use Rattle.esql_ast.specs.declared.query.NamePattern.{NamePattern}
 
 append_none : {A : Type 0} (xs : List A) → xs ++ [] ≡ xs
@@ -57,7 +56,7 @@ where_from : (test : List ℕ → Bool) (first : ℕ) (names : List (List ℕ)) 
 where_from test first [] = refl
 where_from test first (name ∷ names) = first_place (test name) name first _ _ (where_from test (first + 1) names)
 
-places_where_from : (test : List ℕ → Bool) (names : List (List ℕ)) → places_where test names ≡ places_from test 0 names
+pub places_where_from : (test : List ℕ → Bool) (names : List (List ℕ)) → places_where test names ≡ places_from test 0 names
 places_where_from test names = where_from test 0 names
 
 places_from_map : {A B : Type 0} (test : B → Bool) (f : A → B) (first : ℕ) (xs : List A) → places_from test first (map f xs) ≡ places_from (λ x. test (f x)) first xs

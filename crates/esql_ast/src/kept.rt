@@ -8,7 +8,7 @@ use esql_types::{Seq, Span, Text};
 use std::alloc::{AllocError, Global};
 
 /// Why KEEP or DROP is refused: the first of its patterns that no column meets.
-#[derive(Drop)]
+#[derive(Debug, Drop)]
 pub enum NameError {
     /// It is a full name.
     UnknownColumn { span: Span },
@@ -76,12 +76,9 @@ fn rank_of(pattern: &NamePattern) -> u8
     ensures { result ≡ rank_of pattern.now }
 {
     if !pattern.wild {
-        2
-    } else if is_star(pattern.text.as_str()) {
-        0
-    } else {
-        1
+        return 2;
     }
+    if is_star(pattern.text.as_str()) { 0 } else { 1 }
 }
 
 fn meets_at_rank(rank: u8, name: &str, pattern: &NamePattern) -> bool
@@ -107,13 +104,9 @@ fn last_of_rank(rank: u8, patterns: &[NamePattern], name: &str) -> Option<usize>
 fn winner(patterns: &[NamePattern], name: &str) -> Option<usize>
     ensures { result ≡ winner patterns.now name.now }
 {
-    if let Some(place) = last_of_rank(2, patterns, name) {
-        return Some(place);
-    }
-    if let Some(place) = last_of_rank(1, patterns, name) {
-        return Some(place);
-    }
-    last_of_rank(0, patterns, name)
+    last_of_rank(2, patterns, name)
+        .or_else(|| last_of_rank(1, patterns, name))
+        .or_else(|| last_of_rank(0, patterns, name))
 }
 
 fn winners(
@@ -133,10 +126,7 @@ fn winners(
 fn is_place(winning: usize, won: Option<usize>) -> bool
     ensures { result ≡ is_place winning won }
 {
-    match won {
-        None => false,
-        Some(place) => place == winning,
-    }
+    matches!(won, Some(place) if place == winning)
 }
 
 fn push_where(stays: bool, places: &mut Seq<u32>, place: u32) -> Result<(), AllocError>

@@ -12,14 +12,16 @@ mod query;
 #[cfg(test)]
 mod tests;
 #[cfg(test)]
+mod tests_names;
+#[cfg(test)]
 mod tests_uses;
 mod uses;
 
 pub use expr::{BinaryOp, Expr, Form};
 pub use kept::{NameError, drop_names, keep_order};
 pub use laws::{
-    numbering_keeps_depth, numbering_keeps_fit, numbering_keeps_spans, numbers_in_order,
-    warned_places_fit,
+    kept_are_won, kept_differ, kept_once, numbering_keeps_depth, numbering_keeps_fit,
+    numbering_keeps_spans, numbers_in_order, renamed_differ, warned_places_fit,
 };
 pub use like::like_name;
 pub use names::{RenameError, Renamed, rename_pairs};

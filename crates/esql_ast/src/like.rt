@@ -9,8 +9,8 @@ enum Front<'p, 'n> {
     Whole,
     // They stand for no front of the name, or there is no run and they stand for less than it.
     Differs,
-    // They stand for what is before `name`, and the rest of the pattern is a run and `pattern`.
-    Run { pattern: &'p str, name: &'n str },
+    // They stand for what is before the second, and the rest of the pattern is a run and the first.
+    Run(&'p str, &'n str),
 }
 
 // The first character of a text, and the text behind it.
@@ -27,10 +27,7 @@ fn match_front<'p, 'n>(mut pattern: &'p str, mut name: &'n str) -> Front<'p, 'n>
 {
     while let Some((own, behind)) = cut_char(pattern) {
         if own == '*' {
-            return Front::Run {
-                pattern: behind,
-                name,
-            };
+            return Front::Run(behind, name);
         }
         match cut_char(name) {
             Some((character, rest)) if character == own => name = rest,
@@ -57,10 +54,7 @@ fn end_is_like(mut pattern: &str, mut name: &str) -> bool
                 Some((_, rest)) => name = rest,
                 None => return false,
             },
-            Front::Run {
-                pattern: behind,
-                name: rest,
-            } => {
+            Front::Run(behind, rest) => {
                 pattern = behind;
                 name = rest;
             }
@@ -78,6 +72,6 @@ pub fn like_name(pattern: &str, name: &str) -> bool
     match match_front(pattern, name) {
         Front::Whole => true,
         Front::Differs => false,
-        Front::Run { pattern, name } => end_is_like(pattern, name),
+        Front::Run(pattern, name) => end_is_like(pattern, name),
     }
 }

@@ -14,7 +14,7 @@ pub struct Renamed {
 }
 
 /// Why RENAME is refused.
-#[derive(Drop)]
+#[derive(Debug, Drop)]
 pub enum RenameError {
     /// The old name of a pair is no column's at its turn.
     UnknownColumn { span: Span },

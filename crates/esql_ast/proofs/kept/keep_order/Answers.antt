@@ -1,4 +1,4 @@
-use Rattle.std.proofs.Common.{rules, arith}
+use Rattle.std.proofs.Common.{rules}
 use Rattle.esql_ast.proofs.NamePlaces.{kept_more, kept_all}
 use Rattle.esql_ast.proofs.kept.keep_order.Goals as goal
 

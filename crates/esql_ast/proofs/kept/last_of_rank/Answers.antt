@@ -1,4 +1,4 @@
-use Rattle.std.proofs.Common.{rules, arith, sym, ◌∙◌, ◌-◌}
+use Rattle.std.proofs.Common.{rules, sym, ◌∙◌}
 use Rattle.esql_ast.specs.NameRules.{meets_at_rank}
 use Rattle.esql_ast.proofs.NameLasts.{last_at_place, last_before_place}
 use Rattle.esql_ast.proofs.kept.last_of_rank.Goals as goal
