@@ -33,8 +33,8 @@ no_place nodes node above (one ∷ ones) all =
     let off : cond {A = ℕ} (one.0 == node.0) 1 0 ≡ 0 = ap (λ (b : Bool). cond {A = ℕ} b 1 0) other in
     omega (arith, off, no_place nodes node above ones (All-tail (IsBelow nodes) one ones all))
   where
-  differ : (n m : ℕ) → n < m → n == m ≡ false
-  differ n m less = grind arith
+    differ : (n m : ℕ) → n < m → n == m ≡ false
+    differ n m less = grind arith
 
 abbrev others : NodeId → List Failure → List Failure
 others node failures = filter (λ (failure : Failure). failure.node.0 == node.0) failures
@@ -47,18 +47,18 @@ below_from nodes (failure ∷ failures) none =
     (by_case (nat_lt failure.node.0 nodes) refl)
     (below_from nodes failures (λ node above. later node (failure.node.0 == node.0) (none node above)))
   where
-  later : (node : NodeId) (b : Bool) → map (λ (failure : Failure). failure.cause) (if b then failure ∷ others node failures else others node failures) ≡ [] → causes_at node failures ≡ []
-  later node true is = absurd cc
-  later node false is = is
+    later : (node : NodeId) (b : Bool) → map (λ (failure : Failure). failure.cause) (if b then failure ∷ others node failures else others node failures) ≡ [] → causes_at node failures ≡ []
+    later node true is = absurd cc
+    later node false is = is
 
-  own : (id : ℕ) → id == id ≡ true
-  own id = grind arith
+    own : (id : ℕ) → id == id ≡ true
+    own id = grind arith
 
-  by_case : (b : Bool) → nat_lt failure.node.0 nodes ≡ b → failure.node.0 < nodes
-  by_case true is = grind (arith, nat_tests, is)
-  by_case false is =
-      let above : nodes ≤ failure.node.0 = grind (arith, nat_tests, is) in
-      absurd (let no : failure.cause ∷ causes_at failure.node failures ≡ [] =
+    by_case : (b : Bool) → nat_lt failure.node.0 nodes ≡ b → failure.node.0 < nodes
+    by_case true is = grind (arith, nat_tests, is)
+    by_case false is =
+        let above : nodes ≤ failure.node.0 = grind (arith, nat_tests, is) in
+        absurd (let no : failure.cause ∷ causes_at failure.node failures ≡ [] =
         sym (ap (λ (b : Bool). map (λ (failure : Failure). failure.cause) (if b then failure ∷ others failure.node failures else others failure.node failures)) (own failure.node.0)) ∙ none failure.node above in cc)
 
 -- parts of which none fails at a node
@@ -75,8 +75,8 @@ value_below bounds made expr stands row = below_from bounds.nodes (value_of_type
     let first = fails_first node (parted expr).parts row [] in
     failures_by_parts node row expr (omega (arith, none, counts, first)) ∙ none_on node (omega (arith, none, counts, first)))
   where
-  none_on : (node : NodeId) → count_of (fails_at node) (on (parted expr).parts row) ≤ 0 → causes_at node (fails_in (parted expr).parts row) ≡ []
-  none_on node none = none_fails node row (parted expr).parts none
+    none_on : (node : NodeId) → count_of (fails_at node) (on (parted expr).parts row) ≤ 0 → causes_at node (fails_in (parted expr).parts row) ≡ []
+    none_on node none = none_fails node row (parted expr).parts none
 
 step_below : (bounds : Bounds) (made : List MadeColumn) (step : Step) → StepStands bounds made step → All (IsBelow bounds.nodes) (step_nodes step)
 step_below bounds made (Eval to expr) stands = stands.0.nodes

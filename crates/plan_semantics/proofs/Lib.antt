@@ -14,3 +14,4 @@ pub mod RowByRow
 pub mod Standing
 pub mod Orderly
 pub mod Below
+pub mod Restricted

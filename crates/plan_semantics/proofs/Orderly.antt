@@ -32,7 +32,9 @@ orderly_eval to expr steps rows orderly = orderly_first (Eval to expr) steps row
 
 pub orderly_condition : (own : NodeId) (condition : TypedExpr) (steps : List Step) (rows : List NumberedRow) → AreOrderly (Filter own condition ∷ steps) rows → IsExprOrderly condition rows
 orderly_condition own condition steps rows orderly node =
-    omega (arith,
+    omega (
+      arith,
       orderly_first (Filter own condition) steps rows orderly node,
       ap (count_of (fails_at node)) (map-append (λ (part : FalliblePart). flat_map part rows) (parted condition).parts (condition_part own condition ∷ [])),
-      count_of-append (fails_at node) (over_rows (parted condition).parts rows) (over_rows (condition_part own condition ∷ []) rows))
+      count_of-append (fails_at node) (over_rows (parted condition).parts rows) (over_rows (condition_part own condition ∷ []) rows),
+    )

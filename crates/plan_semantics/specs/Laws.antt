@@ -14,6 +14,7 @@ use Rattle.plan_semantics.specs.Steps.{step_gives, step_rows, rows_after, failur
 use Rattle.plan_semantics.specs.Agrees.{PlanSeen, Agrees, AgreeAtNodes}
 use Rattle.plan_semantics.specs.Plans.{plan_means}
 use Rattle.plan_semantics.specs.Parts.{parted, fails_in, plan_parts, IsOrderly, IsExprOrderly}
+use Rattle.plan_semantics.specs.Used.{StepReadsUsed, SameOn, SameAfter}
 use Rattle.plan_semantics.specs.Tables.{TableHeld, catalog_tables, source_rows}
 use Rattle.plan_semantics.specs.WellFormed.{Bounds, MadeColumn, StepStands, StepsStand, HaveOwnNodes, RowHas, steps_made, AreTables, StepsFit, IsWellFormed, ExprStands}
 
@@ -38,6 +39,11 @@ AreSameAt this that column = this column.id.0 ≡ that column.id.0
 abbrev pub ReadsItsColumns : Type 0
 ReadsItsColumns = (expr : TypedExpr) (this that : NumberedRow) → All (AreSameAt this that) (columns_read expr)
     → value_of_typed expr this ≡ value_of_typed expr that
+
+-- steps that read columns that are used alone give the same of rows that are the same in these, and fail in the same way
+abbrev pub StepsReadTheirColumns : Type 0
+StepsReadTheirColumns = (uses : ℕ → Bool) (steps : List Step) → All (StepReadsUsed uses) steps
+    → (these those : List NumberedRow) → SameOn uses these those → SameAfter uses steps these those
 
 -- two rows have one cell in each column that is made
 abbrev pub IsKept : List MadeColumn → NumberedRow → NumberedRow → Type 0

@@ -1,6 +1,6 @@
 //! Laws of plans.
 
-ghost use Rattle.plan_semantics.specs.Laws.{RowsSplit, FailuresSplit, ReadsItsColumns, StepsKeep, EachAgrees, AgreeBack, AgreeThrough, EqualAgree, FailsByRows, FailsByParts, PlanFailsByParts, OwnNodesAreOrderly, ValuesHaveTheirKind, RowsKeepKinds, PlansFitRows, PlansShowKinds, ValuesFailBelow, PlansFailBelow};
+ghost use Rattle.plan_semantics.specs.Laws.{RowsSplit, FailuresSplit, ReadsItsColumns, StepsReadTheirColumns, StepsKeep, EachAgrees, AgreeBack, AgreeThrough, EqualAgree, FailsByRows, FailsByParts, PlanFailsByParts, OwnNodesAreOrderly, ValuesHaveTheirKind, RowsKeepKinds, PlansFitRows, PlansShowKinds, ValuesFailBelow, PlansFailBelow};
 
 /// A law: the rows after steps and others behind them are the rows after the others of the rows after the first.
 pub fn rows_split()
@@ -16,6 +16,11 @@ pub fn failures_split()
 /// A law: the value of an expression depends on the columns that it reads alone.
 pub fn expressions_read_their_columns()
     ensures { ReadsItsColumns }
+{}
+
+/// A law: what steps give of rows, and fail with on them, depends on the columns that they read alone.
+pub fn steps_read_their_columns()
+    ensures { StepsReadTheirColumns }
 {}
 
 /// A law: a step of a well formed plan keeps what a row has in the columns that are made before it.
