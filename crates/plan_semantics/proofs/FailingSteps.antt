@@ -1,5 +1,5 @@
 -- Steps fail as their parts do.
-use Rattle.std.proofs.Common.{◌≡◌, ℕ, ◌+◌, ◌≤◌, List, [], ◌∷◌, ◌++◌, map, refl, ap, sym, ◌∙◌, arith}
+use Rattle.std.proofs.Common.{◌≡◌, ◌≤◌, List, [], ◌∷◌, ◌++◌, refl, ap, sym, ◌∙◌, arith}
 use Rattle.std.specs.List.{flat_map}
 use Rattle.std.proofs.lemmas.List.{append-nil, map-append}
 use Rattle.std.proofs.lemmas.Grind.{flat_map-append}
@@ -30,8 +30,8 @@ module _ (node : NodeId) where
       → causes_at node (step_fails (Filter own condition) row) ≡ causes_at node (fails_in ((parted condition).parts ++ condition_part own condition ∷ []) row)
   condition_alike own condition row once =
       let split =
-          ap (count_of (fails_at node)) (map-append (λ (part : FalliblePart). part row) (parted condition).parts (condition_part own condition ∷ []))
-          ∙ count_of-append (fails_at node) (on (parted condition).parts row) (on (condition_part own condition ∷ []) row) in
+      ap (count_of (fails_at node)) (map-append (λ (part : FalliblePart). part row) (parted condition).parts (condition_part own condition ∷ []))
+      ∙ count_of-append (fails_at node) (on (parted condition).parts row) (on (condition_part own condition ∷ []) row) in
       causes-append node (value_of_typed condition row).failures (condition_part own condition row)
       ∙ (λ i. failures_by_parts node row condition (omega (arith, split, once)) i ++ causes_at node (sym (append-nil (condition_part own condition row)) i))
       ∙ sym (causes-append node (fails_in (parted condition).parts row) (condition_part own condition row ++ []))

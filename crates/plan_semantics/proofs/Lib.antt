@@ -8,3 +8,10 @@ pub mod Failing
 pub mod FailingSteps
 pub mod OwnNodes
 pub mod ResultKinds
+pub mod ValueKinds
+pub mod RowKinds
+pub mod RowByRow
+pub mod Standing
+pub mod Orderly
+pub mod Below
+pub mod Restricted

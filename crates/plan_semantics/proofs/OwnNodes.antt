@@ -1,11 +1,10 @@
 -- A plan whose parts have nodes of their own is orderly.
-use Rattle.std.proofs.Common.{◌≡◌, ℕ, ◌+◌, ◌≤◌, ◌==◌, Bool, true, false, List, [], ◌∷◌, ◌++◌, map, All, Option, refl, ap, sym, subst, ◌∙◌, arith, cond, if◌then◌else◌}
+use Rattle.std.proofs.Common.{◌≡◌, ℕ, ◌+◌, ◌≤◌, ◌==◌, Bool, true, false, List, [], ◌∷◌, ◌++◌, map, All, refl, ap, sym, subst, ◌∙◌, arith, cond, if◌then◌else◌}
 use Rattle.std.specs.Prelude.{◌||◌, not}
 use Rattle.std.specs.List.{flat_map, AllZip, AllByRecursion, IsDistinct}
 use Rattle.std.proofs.lemmas.Map.Keys.{IsDistinct-head, IsDistinct-tail}
-use Rattle.std.proofs.lemmas.List.{append-nil, map-append}
-use Rattle.std.proofs.lemmas.Grind.{flat_map-append}
-use Rattle.std.proofs.lemmas.List.Elements.{All-nil, All-cons, All-head, All-tail}
+use Rattle.std.proofs.lemmas.List.{append-nil}
+use Rattle.std.proofs.lemmas.List.Elements.{All-head, All-tail}
 use Rattle.esql_types.specs.declared.cause.Cause.{Cause}
 use Rattle.esql_types.specs.declared.cause.Failure.{Failure}
 use Rattle.esql_types.specs.declared.names.NodeId.{NodeId}
@@ -81,8 +80,8 @@ of_case (condition ∷ part ∷ rest) all =
     of_both (nodes_of condition) (parted condition).parts (nodes_of part ++ flat_map nodes_of rest) (map (reached met) (parted part).parts ++ map (reached unmet) (parts_of_case (map parted rest)))
     (All-head HasOwn condition (part ∷ rest) all)
     (of_both (nodes_of part) (map (reached met) (parted part).parts) (flat_map nodes_of rest) (map (reached unmet) (parts_of_case (map parted rest)))
-      (of_reached met (nodes_of part) (parted part).parts (All-head HasOwn part rest behind_it))
-      (of_reached unmet (flat_map nodes_of rest) (parts_of_case (map parted rest)) (of_case rest (All-tail HasOwn part rest behind_it))))
+    (of_reached met (nodes_of part) (parted part).parts (All-head HasOwn part rest behind_it))
+    (of_reached unmet (flat_map nodes_of rest) (parts_of_case (map parted rest)) (of_case rest (All-tail HasOwn part rest behind_it))))
 
 of_rule : (rule : Rule) (args : List TypedExpr) → All HasOwn args → AreOf (flat_map nodes_of args) (parts_by rule (map parted args))
 of_rule (singles function) args all = of_all args all
@@ -132,7 +131,7 @@ step_own (Enrich policy on fields to) = tt
 
 module _ (node : NodeId) where
   -- how often a node is among others
-  abbrev places : List NodeId → ℕ
+  abbrev pub places : List NodeId → ℕ
   places nodes = count_of (λ (one : NodeId). one.0 == node.0) nodes
 
   both_quiet : (xs ys : List Failure) → fails_at node xs ≡ false → fails_at node ys ≡ false → fails_at node (xs ++ ys) ≡ false
@@ -151,23 +150,27 @@ module _ (node : NodeId) where
   one_counts false true so = absurd (let no : true ≡ false = so refl in cc)
   one_counts false false so = omega arith
 
-  parts_count : (nodes : List NodeId) (parts : List FalliblePart) → AreOf nodes parts → (rows : List NumberedRow) → count_of (fails_at node) (over_rows parts rows) ≤ places nodes
+  pub parts_count : (nodes : List NodeId) (parts : List FalliblePart) → AreOf nodes parts → (rows : List NumberedRow) → count_of (fails_at node) (over_rows parts rows) ≤ places nodes
   parts_count [] [] are rows = omega arith
   parts_count [] (part ∷ parts) are rows = absurd are
   parts_count (own ∷ nodes) [] are rows = absurd are
   parts_count (own ∷ nodes) (part ∷ parts) are rows =
-      omega (arith,
+      omega (
+        arith,
         one_counts (own.0 == node.0) (fails_at node (flat_map part rows)) (λ elsewhere. rows_quiet part (are.0 node elsewhere) rows),
-        parts_count nodes parts are.1 rows)
+        parts_count nodes parts are.1 rows,
+      )
 
-  steps_count : (steps : List Step) (rows : List NumberedRow) → count_of (fails_at node) (parts_after steps rows) ≤ places (flat_map step_nodes steps)
+  pub steps_count : (steps : List Step) (rows : List NumberedRow) → count_of (fails_at node) (parts_after steps rows) ≤ places (flat_map step_nodes steps)
   steps_count [] rows = omega arith
   steps_count (step ∷ steps) rows =
-      omega (arith,
+      omega (
+        arith,
         count_of-append (fails_at node) (over_rows (step_parts step) rows) (parts_after steps (step_rows step rows)),
         count_of-append (λ (one : NodeId). one.0 == node.0) (step_nodes step) (flat_map step_nodes steps),
         parts_count (step_nodes step) (step_parts step) (step_own step) rows,
-        steps_count steps (step_rows step rows))
+        steps_count steps (step_rows step rows),
+      )
 
 -- each number once ---------------------------------------------------------------------------------------------------------------------------
 
@@ -200,7 +203,9 @@ places_mapped node (one ∷ nodes) = ap (λ n. cond {A = ℕ} (one.0 == node.0) 
 
 pub orderly_steps : (steps : List Step) → HaveOwnNodes steps → (rows : List NumberedRow) (node : NodeId) → count_of (fails_at node) (parts_after steps rows) ≤ 1
 orderly_steps steps own rows node =
-    omega (arith,
+    omega (
+      arith,
       steps_count node steps rows,
       places_mapped node (flat_map step_nodes steps),
-      counted_once node.0 (map (λ (one : NodeId). one.0) (flat_map step_nodes steps)) own)
+      counted_once node.0 (map (λ (one : NodeId). one.0) (flat_map step_nodes steps)) own,
+    )

@@ -1,16 +1,16 @@
 -- The value of an expression depends on the columns that it reads alone.
-use Rattle.std.proofs.Common.{◌≡◌, ℕ, Bool, true, false, List, [], ◌∷◌, ◌++◌, map, All, Option, refl, ap, sym, subst, ◌∙◌, if◌then◌else◌}
+use Rattle.std.proofs.Common.{◌≡◌, ℕ, Bool, true, false, List, [], ◌∷◌, map, All, refl, ap, sym, subst, ◌∙◌, if◌then◌else◌}
 use Rattle.std.specs.List.{flat_map}
 use Rattle.std.proofs.lemmas.List.Elements.{All-nil, All-cons, All-head, All-tail}
 use Rattle.esql_types.proofs.Lists.{All-front, All-back}
 use Rattle.esql_types.specs.declared.value.Value.{Value}
 use Rattle.esql_types.specs.declared.value.Kind.{Kind}
-use Rattle.esql_plan.specs.declared.function.Function.{Function}
 use Rattle.esql_plan.specs.declared.typed.TypedExpr.{TypedExpr}
-use Rattle.esql_plan.specs.Values.{Valued, NumberedRow, silent, applied, value_of_typed}
+use Rattle.esql_plan.specs.Values.{NumberedRow, silent, applied, value_of_typed}
 use Rattle.esql_plan.specs.Fits.{ReadColumn, columns_read}
-use Rattle.esql_plan.proofs.TypedFolds.{value_of_constant, value_of_column, value_of_call, columns_of_constant, columns_of_column, columns_of_call}
+use Rattle.esql_plan.proofs.TypedFolds.{value_of_constant, value_of_column, value_of_call, columns_of_column, columns_of_call}
 use Rattle.esql_plan.proofs.Inductions.{typed_ind}
+use Rattle.plan_semantics.specs.Used.{restrict}
 use Rattle.plan_semantics.specs.Laws.{AreSameAt}
 
 -- what holds of all that the parts have holds of what each has
@@ -55,19 +55,15 @@ module _ (this that : NumberedRow) where
         ∙ sym (value_of_call _ that function args pattern refl);
   })
 
--- a row with null in place of each column that is not used
-abbrev pub restrict : (ℕ → Bool) → NumberedRow → NumberedRow
-restrict uses row = λ id. if uses id then row id else []
-
-one_kept : (uses : Bool) (cell : List Value) → uses ≡ true → (if uses then cell else []) ≡ cell
-one_kept true cell is = refl
-one_kept false cell is = absurd cc
+pub one_used : (uses : Bool) (cell : List Value) → uses ≡ true → (if uses then cell else []) ≡ cell
+one_used true cell is = refl
+one_used false cell is = absurd cc
 
 all_kept : (uses : ℕ → Bool) (row : NumberedRow) (columns : List ReadColumn) → All (λ (column : ReadColumn). uses column.id.0 ≡ true) columns → All (AreSameAt (restrict uses row) row) columns
 all_kept uses row [] all = All-nil (AreSameAt (restrict uses row) row)
 all_kept uses row (column ∷ columns) all =
     All-cons (AreSameAt (restrict uses row) row) column columns
-    (one_kept (uses column.id.0) (row column.id.0) (All-head (λ (column : ReadColumn). uses column.id.0 ≡ true) column columns all))
+    (one_used (uses column.id.0) (row column.id.0) (All-head (λ (column : ReadColumn). uses column.id.0 ≡ true) column columns all))
     (all_kept uses row columns (All-tail (λ (column : ReadColumn). uses column.id.0 ≡ true) column columns all))
 
 -- an expression that reads columns that are used alone has its value on the row with these alone

@@ -4,5 +4,6 @@ pub mod Steps
 pub mod Agrees
 pub mod Plans
 pub mod Parts
+pub mod Used
 pub mod WellFormed
 pub mod Laws

@@ -1,6 +1,6 @@
 //! Laws of plans.
 
-ghost use Rattle.plan_semantics.specs.Laws.{RowsSplit, FailuresSplit, ReadsItsColumns, StepsKeep, EachAgrees, AgreeBack, AgreeThrough, EqualAgree, FailsByRows, FailsByParts, PlanFailsByParts, OwnNodesAreOrderly};
+ghost use Rattle.plan_semantics.specs.Laws.{RowsSplit, FailuresSplit, ReadsItsColumns, StepsReadTheirColumns, StepsKeep, EachAgrees, AgreeBack, AgreeThrough, EqualAgree, FailsByRows, FailsByParts, PlanFailsByParts, OwnNodesAreOrderly, ValuesHaveTheirKind, RowsKeepKinds, PlansFitRows, PlansShowKinds, ValuesFailBelow, PlansFailBelow};
 
 /// A law: the rows after steps and others behind them are the rows after the others of the rows after the first.
 pub fn rows_split()
@@ -16,6 +16,11 @@ pub fn failures_split()
 /// A law: the value of an expression depends on the columns that it reads alone.
 pub fn expressions_read_their_columns()
     ensures { ReadsItsColumns }
+{}
+
+/// A law: what steps give of rows, and fail with on them, depends on the columns that they read alone.
+pub fn steps_read_their_columns()
+    ensures { StepsReadTheirColumns }
 {}
 
 /// A law: a step of a well formed plan keeps what a row has in the columns that are made before it.
@@ -61,4 +66,35 @@ pub fn plans_fail_by_parts()
 /// A law: a plan in which no two parts have one node is orderly on all tables.
 pub fn own_nodes_are_orderly()
     ensures { OwnNodesAreOrderly }
+{}
+
+/// A law: the value of a well formed expression has its kind, on a row with cells of their kinds in the columns that it
+/// reads.
+pub fn values_have_their_kind()
+    ensures { ValuesHaveTheirKind }
+{}
+
+/// A law: the rows after the steps of a well formed plan have a cell of its kind in each column that is made.
+pub fn rows_keep_kinds()
+    ensures { RowsKeepKinds }
+{}
+
+/// A law: over tables of the catalog each expression of a well formed plan fits each row that it is evaluated on.
+pub fn plans_fit_rows()
+    ensures { PlansFitRows }
+{}
+
+/// A law: over tables of the catalog a well formed plan shows rows with a cell of its kind for each of its columns.
+pub fn plans_show_kinds()
+    ensures { PlansShowKinds }
+{}
+
+/// A law: an expression of a well formed plan fails at nodes below the plan's number alone.
+pub fn values_fail_below()
+    ensures { ValuesFailBelow }
+{}
+
+/// A law: a well formed plan fails at nodes below its number alone, on all tables.
+pub fn plans_fail_below()
+    ensures { PlansFailBelow }
 {}

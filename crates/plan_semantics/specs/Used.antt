@@ -1,0 +1,45 @@
+-- The columns that steps read, and rows that are the same in them.
+use Rattle.std.specs.Prelude.{◌≡◌, ℕ, Bool, true, List, [], map, All, if◌then◌else◌}
+use Rattle.esql_plan.specs.declared.typed.TypedExpr.{TypedExpr}
+use Rattle.esql_plan.specs.declared.plan.OutColumn.{OutColumn}
+use Rattle.esql_plan.specs.declared.step.Step.{Step}
+use Rattle.esql_plan.specs.declared.step.Step.TheVariants.{Eval, Filter, Sort, TopN, Limit, Expand, Stats, Dissect, Grok, Enrich}
+use Rattle.esql_plan.specs.Values.{NumberedRow}
+use Rattle.esql_plan.specs.Fits.{columns_read}
+use Rattle.plan_semantics.specs.Steps.{rows_after, failures_after}
+use Rattle.plan_semantics.specs.Parts.{parts_after}
+
+-- a row with null in place of each column that is not used
+abbrev pub restrict : (ℕ → Bool) → NumberedRow → NumberedRow
+restrict uses row = λ id. if uses id then row id else []
+
+-- an expression reads columns that are used alone
+abbrev pub ReadsUsed : (ℕ → Bool) → TypedExpr → Type 0
+ReadsUsed uses expr = All (λ column. uses column.id.0 ≡ true) (columns_read expr)
+
+-- a step reads columns that are used alone; no plan with one of the last four is run so far
+abbrev pub StepReadsUsed : (ℕ → Bool) → Step → Type 0
+StepReadsUsed uses (Eval to expr) = ReadsUsed uses expr
+StepReadsUsed uses (Filter node condition) = ReadsUsed uses condition
+StepReadsUsed uses (Expand id to) = uses id.0 ≡ true
+StepReadsUsed uses (Sort keys) = All (λ key. uses key.id.0 ≡ true) keys
+StepReadsUsed uses (TopN keys count) = All (λ key. uses key.id.0 ≡ true) keys
+StepReadsUsed uses (Limit count) = Unit {0}
+StepReadsUsed uses (Stats aggregates groups) = Unit {0}
+StepReadsUsed uses (Dissect node input cutter to) = Unit {0}
+StepReadsUsed uses (Grok node input cutter to) = Unit {0}
+StepReadsUsed uses (Enrich policy on fields to) = Unit {0}
+
+-- the column is used
+abbrev pub IsUsedOut : (ℕ → Bool) → OutColumn → Type 0
+IsUsedOut uses out = uses out.id.0 ≡ true
+
+-- the same rows in the same order, as far as columns are used
+abbrev pub SameOn : (ℕ → Bool) → List NumberedRow → List NumberedRow → Type 0
+SameOn uses these those = map (restrict uses) these ≡ map (restrict uses) those
+
+-- steps give the same of these rows as of those, as far as columns are used, and fail in the same way
+pub record SameAfter (uses : ℕ → Bool) (steps : List Step) (these those : List NumberedRow) : Type 0 where
+  pub rows : SameOn uses (rows_after steps these) (rows_after steps those)
+  pub failures : failures_after steps these ≡ failures_after steps those
+  pub parts : parts_after steps these ≡ parts_after steps those
