@@ -38,16 +38,16 @@ typing_in both = both.typing
 abbrev judged_in : Both → Judged
 judged_in both = both.judged
 
-ok_is : {A : Type 0} {this that : A} → ◌≡◌ {A = Result A Broken} (Ok this) (Ok that) → this ≡ that
+pub ok_is : {A : Type 0} {this that : A} → ◌≡◌ {A = Result A Broken} (Ok this) (Ok that) → this ≡ that
 ok_is e = cc
 
 -- what is found behind something that was found
-record Found {A B : Type 0} (first : Result A Broken) (next : A → Result B Broken) (last : B) : Type 0 where
-  value : A
-  is : first ≡ Ok value
-  next_is : next value ≡ Ok last
+pub record Found {A B : Type 0} (first : Result A Broken) (next : A → Result B Broken) (last : B) : Type 0 where
+  pub value : A
+  pub is : first ≡ Ok value
+  pub next_is : next value ≡ Ok last
 
-found_of : {A B : Type 0} (first : Result A Broken) (next : A → Result B Broken) (last : B) → and_then first next ≡ Ok last → Found first next last
+pub found_of : {A B : Type 0} (first : Result A Broken) (next : A → Result B Broken) (last : B) → and_then first next ≡ Ok last → Found first next last
 found_of (Ok value) next last is = record { value = value; is = refl; next_is = is }
 found_of (Err broken) next last is = absurd cc
 

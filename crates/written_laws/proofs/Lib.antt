@@ -4,3 +4,6 @@ pub mod Kinded
 pub mod Squares
 pub mod Named
 pub mod Commands
+pub mod Sources
+pub mod Shown
+pub mod Whole
