@@ -7,3 +7,4 @@ pub mod Commands
 pub mod Sources
 pub mod Shown
 pub mod Whole
+pub mod Distinct
