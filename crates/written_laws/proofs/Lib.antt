@@ -8,3 +8,4 @@ pub mod Sources
 pub mod Shown
 pub mod Whole
 pub mod Distinct
+pub mod NamesKept
