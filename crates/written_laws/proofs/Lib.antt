@@ -9,3 +9,5 @@ pub mod Shown
 pub mod Whole
 pub mod Distinct
 pub mod NamesKept
+pub mod Ordered
+pub mod Apart

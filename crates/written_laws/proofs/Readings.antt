@@ -21,7 +21,7 @@ use Rattle.esql_plan.specs.declared.function.AggFunction.{AggFunction}
 use Rattle.esql_plan.specs.declared.names.FunctionRow.{FunctionRow}
 use Rattle.esql_plan.specs.Names.{function_named, aggregate_named, cast_named}
 use Rattle.row_semantics.specs.declared.rule.NameRule.TheVariants as rule
-use Rattle.row_semantics.specs.Forms.{Part, Seen, constant, named, same, applied, aggregate, refused, Reader, seen, call_by, call_of, takes, cast_by, list_in_kind, kind_of_list, function_of, like_function, literal_of, part_of_form, part_of, read_by, pattern_part}
+use Rattle.row_semantics.specs.Forms.{Part, Seen, constant, named, same, applied, aggregate, refused, Reader, seen, call_by, call_of, takes, cast_by, list_in_kind, kind_of_list, constant_in, function_of, like_function, literal_of, part_of_form, part_of, read_by, pattern_part}
 
 -- a part with another reading
 abbrev pub part_with : {A B : Type 0} → (A → B) → Part A → Part B
@@ -48,6 +48,10 @@ list_with : {A B : Type 0} (make : A → B) (values : List Value) (found : Optio
 list_with make values (Some kind.Long) span = refl
 list_with make values (Some other) span = refl
 list_with make values None span = refl
+
+constant_with : {A B : Type 0} (make : A → B) (cell : List Value) (span : Span) → constant_in cell span ≡ seen_with make (constant_in cell span)
+constant_with make [] span = refl
+constant_with make (value ∷ values) span = list_with make (value ∷ values) (kind_of_list (value ∷ values)) span
 
 arguments_with : {A B : Type 0} (make : A → B) (row : FunctionRow) (parts : List (Part A)) (span : Span) (taken : Bool)
     → cond taken (applied row.function (parts_with make parts)) (refused [] rule.BadArguments span) ≡ seen_with make (cond taken (applied row.function parts) (refused [] rule.BadArguments span))
@@ -116,7 +120,7 @@ module _ (A B : Type 0) (first : Reader A) (second : Reader B) (make : A → B) 
       ∙ sym (ap (λ f. part_with make (f node span)) right)
 
   form_made : (layer : Form-F GoodForm GoodExpr) → FormMade (roll-Form (layer_of layer))
-  form_made (Constant cell kind) = carried (layer_of (Constant cell kind)) refl (λ node span. refl)
+  form_made (Constant cell kind) = carried (layer_of (Constant cell kind)) refl (λ node span. constant_with make cell span)
   form_made (Listed values) = carried (layer_of (Listed values)) refl (λ node span. list_with make values (kind_of_list values) span)
   form_made (Column name) = carried (layer_of (Column name)) refl (λ node span. refl)
   form_made (Group inner) = carried (layer_of (Group inner)) refl (λ node span. ap same inner.1)

@@ -34,11 +34,11 @@ use Rattle.written_laws.proofs.Sources.{columns_of-numbered}
 abbrev pub Shows : Writing → List Column → Type 0
 Shows writing columns = columns ≡ columns_of writing.visible
 
-unmet_is : (unmet : Option NamePattern) (columns after : List Column) → unless_unmet unmet columns ≡ Ok after → columns ≡ after
+pub unmet_is : (unmet : Option NamePattern) (columns after : List Column) → unless_unmet unmet columns ≡ Ok after → columns ≡ after
 unmet_is None columns after is = ok_is is
 unmet_is (Some pattern) columns after is = absurd cc
 
-missing_is : (missing : Option RenamePair) (columns after : List Column) → unless_missing missing columns ≡ Ok after → columns ≡ after
+pub missing_is : (missing : Option RenamePair) (columns after : List Column) → unless_missing missing columns ≡ Ok after → columns ≡ after
 missing_is None columns after is = ok_is is
 missing_is (Some pair) columns after is = absurd cc
 
@@ -70,7 +70,7 @@ fields_show context (field ∷ fields) columns after writing shows is =
     let found = found_of (shape_of_field context field columns) (shape_of_fields context fields) after is in
     fields_show context fields found.value after (write_field context.text writing field) (field_shows context field columns found.value writing shows found.is) found.next_is
 
-condition_shows : (context : Context) (condition : Expr) (columns after : List Column) → shape_of_condition context condition columns ≡ Ok after → columns ≡ after
+pub condition_shows : (context : Context) (condition : Expr) (columns after : List Column) → shape_of_condition context condition columns ≡ Ok after → columns ≡ after
 condition_shows context condition columns after is =
     let found = found_of (kind_or_rule condition (scope_over context columns)) _ after is in
     either_is (is_kind kind.Boolean found.value) _ columns after found.next_is
