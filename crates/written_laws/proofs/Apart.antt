@@ -1,11 +1,9 @@
 -- The columns of a query differ in their names, and its rows have just these names.
-use Rattle.std.proofs.Common.{◌≡◌, ℕ, Bool, true, false, cond, List, [], ◌∷◌, ◌++◌, map, filter, not, All, Option, Some, None, Result, Ok, Err, refl, ap, sym, subst, ◌∙◌}
-use Rattle.std.specs.Str.{bytes_eq}
+use Rattle.std.proofs.Common.{◌≡◌, ℕ, List, [], ◌∷◌, map, Ok, sym, subst, ◌∙◌}
 use Rattle.std.proofs.lemmas.List.{map-append}
 use Rattle.std.proofs.lemmas.List.Elements.{All-nil, All-cons}
 use Rattle.esql_types.specs.declared.names.Column.{Column}
 use Rattle.esql_types.specs.declared.value.Kind.{Kind}
-use Rattle.esql_ast.specs.declared.expr.Expr.{Expr}
 use Rattle.esql_ast.specs.declared.query.Field.{Field}
 use Rattle.esql_ast.specs.declared.query.Query.{Query}
 use Rattle.esql_ast.specs.declared.query.Command.{Command}
@@ -13,23 +11,22 @@ use Rattle.esql_ast.specs.declared.query.CommandKind.{CommandKind}
 use Rattle.esql_ast.specs.declared.query.CommandKind.TheVariants.{Filter, Eval, Keep, Drop, Rename, Sort, Limit, Expand, Stats, Dissect, Grok, Enrich, Join}
 use Rattle.esql_ast.specs.declared.query.SourceCommand.{SourceCommand}
 use Rattle.esql_ast.specs.declared.query.SourceCommand.TheVariants.{Tables, OneRow}
-use Rattle.esql_ast.specs.NameRules.{first_unmet, first_missing, keep_places, drop_places, at_places, renamings, renamed_by}
+use Rattle.esql_ast.specs.NameRules.{first_unmet, first_missing}
 use Rattle.esql_plan.specs.declared.catalog.Catalog.{Catalog}
 use Rattle.esql_plan.specs.declared.plan.OutColumn.{OutColumn}
 use Rattle.esql_plan.specs.Values.{NumberedRow}
 use Rattle.plan_semantics.specs.Tables.{TableHeld, catalog_tables}
 use Rattle.plan_semantics.specs.Steps.{rows_after}
 use Rattle.plan_semantics.specs.Plans.{columns_of}
-use Rattle.row_semantics.specs.Rows.{Row}
 use Rattle.row_semantics.specs.Fields.{name_of_field}
 use Rattle.row_semantics.specs.Kinds.{kind_or_rule}
-use Rattle.row_semantics.specs.Columns.{names_of, HaveDistinctNames, put_column, without_column, column_as}
+use Rattle.row_semantics.specs.Columns.{names_of, HaveDistinctNames, put_column, without_column}
 use Rattle.row_semantics.specs.Regulars.{is_accepted}
 use Rattle.row_semantics.specs.Sources.{columns_of_tables}
 use Rattle.query_semantics.specs.Commands.{names_in}
 use Rattle.query_semantics.specs.Meaning.{meaning_of, AreRowsOf}
-use Rattle.query_semantics.specs.Shapes.{Context, Shape, scope_over, shape_of_field, shape_of_fields, shape_of_kind, unless_empty, shape_of_command, shape_of_commands, shape_of_source, shape_of}
-use Rattle.query_semantics.specs.Written.{Writing, visible_names, writing_of, written_of}
+use Rattle.query_semantics.specs.Shapes.{Context, scope_over, shape_of_field, shape_of_fields, shape_of_kind, unless_empty, shape_of_command, shape_of_commands, shape_of_source, shape_of}
+use Rattle.query_semantics.specs.Written.{Writing, writing_of}
 use Rattle.written_laws.specs.Named.{named_row}
 use Rattle.written_laws.proofs.Kinded.{found_of, ok_is}
 use Rattle.written_laws.proofs.Named.{names_in-named, names_of-columns}

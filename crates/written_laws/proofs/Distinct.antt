@@ -1,8 +1,6 @@
 -- Lists of names that differ.
-use Rattle.std.proofs.Common.{◌≡◌, ℕ, zero, suc, ◌+◌, ◌<◌, ◌==◌, Bool, true, false, not, cond, List, [], ◌∷◌, ◌++◌, map, filter, length, Option, Some, None, ◌||◌, refl, ap, sym, subst, ◌∙◌, arith}
-use Rattle.std.specs.Prelude.{slice_get}
-use Rattle.std.specs.List.{AllByRecursion, IsDistinct, flat_map, filter_map, cons_option, list_any, range_with_len}
-use Rattle.std.specs.Option.{option_map}
+use Rattle.std.proofs.Common.{◌≡◌, ℕ, zero, suc, ◌+◌, ◌<◌, Bool, true, false, not, cond, List, [], ◌∷◌, ◌++◌, map, filter, Option, Some, None, ◌||◌, refl, ap, sym, subst, ◌∙◌, arith}
+use Rattle.std.specs.List.{AllByRecursion, IsDistinct, flat_map, list_any, range_with_len}
 use Rattle.std.specs.Str.{bytes_eq}
 use Rattle.std.specs.Cmp.Lexicographic.{bytes_decides, nat_list_eq_equiv}
 use Rattle.std.proofs.lemmas.Map.Keys.{IsDistinct-push}
@@ -29,9 +27,9 @@ each_passes : {A : Type 0} (p : A → Bool) (xs : List A) → AllByRecursion (λ
 each_passes p [] = tt
 each_passes p (x ∷ xs) = one (p x) refl (each_passes p xs)
   where
-  one : (passes : Bool) → p x ≡ passes → AllByRecursion (λ x. p x ≡ true) (filter p xs) → AllByRecursion (λ x. p x ≡ true) (cond passes (x ∷ filter p xs) (filter p xs))
-  one true is rest = (is, rest)
-  one false is rest = rest
+    one : (passes : Bool) → p x ≡ passes → AllByRecursion (λ x. p x ≡ true) (filter p xs) → AllByRecursion (λ x. p x ≡ true) (cond passes (x ∷ filter p xs) (filter p xs))
+    one true is rest = (is, rest)
+    one false is rest = rest
 
 -- names that differ ------------------------------------------------------------------------------------------------------
 
@@ -77,10 +75,10 @@ none_same : {A : Type 0} (f : A → List ℕ) (name : List ℕ) (xs : List A) �
 none_same f name [] = refl
 none_same f name (x ∷ xs) = one (bytes_eq (f x) name) refl (none_same f name xs)
   where
-  one : (same : Bool) → bytes_eq (f x) name ≡ same → list_any (bytes_eq name) (map f (others_of f name xs)) ≡ false
-      → list_any (bytes_eq name) (map f (cond (not same) (x ∷ others_of f name xs) (others_of f name xs))) ≡ false
-  one true is rest = rest
-  one false is rest = (λ i. (nat_list_eq_equiv.symm name (f x) ∙ is) i || list_any (bytes_eq name) (map f (others_of f name xs))) ∙ rest
+    one : (same : Bool) → bytes_eq (f x) name ≡ same → list_any (bytes_eq name) (map f (others_of f name xs)) ≡ false
+        → list_any (bytes_eq name) (map f (cond (not same) (x ∷ others_of f name xs) (others_of f name xs))) ≡ false
+    one true is rest = rest
+    one false is rest = (λ i. (nat_list_eq_equiv.symm name (f x) ∙ is) i || list_any (bytes_eq name) (map f (others_of f name xs))) ∙ rest
 
 pub distinct_put : {A : Type 0} (f : A → List ℕ) (name : List ℕ) (xs : List A) → AreDistinct (map f xs) → AreDistinct (map f (filter (λ x. not (bytes_eq (f x) name)) xs) ++ name ∷ [])
 distinct_put f name xs distinct =
@@ -90,9 +88,9 @@ distinct_put f name xs distinct =
 pub other_by : (x y : List ℕ) → (x ≡ y → ⊥) → IsOther x y
 other_by x y differ = by_same (bytes_eq x y) refl
   where
-  by_same : (same : Bool) → bytes_eq x y ≡ same → IsOther x y
-  by_same true is = absurd (differ ((bytes_decides x y).0 is))
-  by_same false is = is
+    by_same : (same : Bool) → bytes_eq x y ≡ same → IsOther x y
+    by_same true is = absurd (differ ((bytes_decides x y).0 is))
+    by_same false is = is
 
 -- names that are grouped by the place of what wins them ---------------------------------------------------------------------
 
@@ -122,9 +120,10 @@ module _ (won : List ℕ → Option ℕ) (names : List (List ℕ)) where
       (λ other not_is. other_by name other (λ same. let both : true ≡ false = sym is ∙ ap (λ these. is_place first (won these)) same ∙ not_is in cc)) later (later_other first (first + 1) count (omega arith)))
       (of_place first) (each_passes (λ name. is_place first (won name)) names))
     where
-    itself : (xs : List (List ℕ)) → map (λ name. name) xs ≡ xs
-    itself [] = refl
-    itself (x ∷ xs) = ap (λ rest. x ∷ rest) (itself xs)
-    filtered : AreDistinct names → AreDistinct (of_place first)
-    filtered distinct =
-        subst AreDistinct (itself (of_place first)) (distinct_filter (λ name. name) (λ name. is_place first (won name)) names (subst AreDistinct (sym (itself names)) distinct))
+      itself : (xs : List (List ℕ)) → map (λ name. name) xs ≡ xs
+      itself [] = refl
+      itself (x ∷ xs) = ap (λ rest. x ∷ rest) (itself xs)
+
+      filtered : AreDistinct names → AreDistinct (of_place first)
+      filtered distinct =
+          subst AreDistinct (itself (of_place first)) (distinct_filter (λ name. name) (λ name. is_place first (won name)) names (subst AreDistinct (sym (itself names)) distinct))

@@ -1,6 +1,5 @@
 -- The typed form of an expression has the kind that the expression is found to have.
 use Rattle.std.proofs.Common.{◌≡◌, ℕ, ◌+◌, Bool, true, false, cond, List, [], ◌∷◌, map, length, Option, Some, None, Result, Ok, Err, refl, ap, sym, subst, ◌∙◌}
-use Rattle.std.specs.Prelude.{if◌then◌else◌}
 use Rattle.std.specs.Str.{bytes_eq}
 use Rattle.esql_types.specs.declared.places.Span.{Span}
 use Rattle.esql_types.specs.declared.names.Column.{Column}
@@ -17,8 +16,8 @@ use Rattle.row_semantics.specs.Forms.{Part, Seen, constant, named, same, applied
 use Rattle.row_semantics.specs.Regulars.{Regular}
 use Rattle.row_semantics.specs.Scopes.{Broken, Scope, elsewhere, column_named}
 use Rattle.row_semantics.specs.Kinds.{Judged, and_then, kinds_of_parts, kind_of_column, kind_of_applied, kind_of_standing, fitting, if_accepted, judged, kind_or_rule}
-use Rattle.row_semantics.specs.Typed.{Visible, Typing, visible_named, typed_null, typed_column, typed_parts, typing, typing_of, typed_of}
-use Rattle.written_laws.proofs.Readings.{part_with, parts_with, seen_with, IsMade, read_made}
+use Rattle.row_semantics.specs.Typed.{Visible, Typing, visible_named, typed_column, typed_parts, typing, typed_of}
+use Rattle.written_laws.proofs.Readings.{part_with, parts_with, seen_with, read_made}
 use Rattle.written_laws.proofs.Valued.{function_with, arguments_with}
 
 -- an expression stands outside STATS, over the columns that can be seen

@@ -11,3 +11,4 @@ pub mod Distinct
 pub mod NamesKept
 pub mod Ordered
 pub mod Apart
+pub mod Limits

@@ -1,15 +1,15 @@
 -- KEEP, DROP and RENAME keep names apart.
-use Rattle.std.proofs.Common.{◌≡◌, ℕ, suc, ◌+◌, ◌==◌, Bool, true, false, not, cond, List, [], ◌∷◌, ◌++◌, map, filter, length, fold, Option, Some, None, is_some, refl, ap, sym, subst, ◌∙◌, append_assoc, arith}
+use Rattle.std.proofs.Common.{◌≡◌, ℕ, suc, ◌+◌, Bool, true, false, not, cond, List, [], ◌∷◌, ◌++◌, map, filter, length, fold, Some, None, is_some, refl, ap, sym, subst, ◌∙◌, append_assoc, arith}
 use Rattle.std.specs.Prelude.{slice_get}
 use Rattle.std.specs.List.{AllByRecursion, flat_map, filter_map, cons_option, range_with_len}
 use Rattle.std.specs.Option.{option_map}
 use Rattle.std.specs.Str.{bytes_eq}
-use Rattle.std.specs.Cmp.Lexicographic.{bytes_decides, nat_list_eq_equiv}
+use Rattle.std.specs.Cmp.Lexicographic.{nat_list_eq_equiv}
 use Rattle.std.proofs.lemmas.List.Elements.{filter_map-append}
 use Rattle.esql_types.specs.declared.names.Column.{Column}
 use Rattle.esql_ast.specs.declared.query.NamePattern.{NamePattern}
 use Rattle.esql_ast.specs.declared.query.RenamePair.{RenamePair}
-use Rattle.esql_ast.specs.NameRules.{Renaming, placed_from, placed, places_where, is_place, winner, wins, keep_places, is_met, drop_places, at_places, is_named, stays, with_new_name, rename_pair, is_there, with_pair, renamings, renamed_by}
+use Rattle.esql_ast.specs.NameRules.{Renaming, placed_from, placed, places_where, winner, wins, keep_places, is_met, drop_places, at_places, stays, with_new_name, rename_pair, is_there, with_pair, renamings, renamed_by}
 use Rattle.row_semantics.specs.Columns.{names_of, HaveDistinctNames, column_as}
 use Rattle.written_laws.proofs.Squares.{flat_map_same, at_places-map}
 use Rattle.written_laws.proofs.Distinct.{AreDistinct, IsOther, distinct_head, distinct_tail, distinct_cons, distinct_filter, distinct_won}
@@ -117,22 +117,22 @@ each_other : (pair : RenamePair) (name : List ℕ) (these : List Renaming) → s
 each_other pair name [] name_stays apart = tt
 each_other pair name (renaming ∷ these) name_stays apart = one (stays pair renaming) refl (each_other pair name these name_stays apart.1)
   where
-  one : (stayed : Bool) → stays pair renaming ≡ stayed → AllByRecursion (IsOther (new_name pair name)) (renamed_names pair these)
-      → AllByRecursion (IsOther (new_name pair name)) (names_in (map (with_new_name pair) (cond stayed (renaming ∷ filter (stays pair) these) (filter (stays pair) these))))
-  one true is rest =
-      (subst (IsOther (new_name pair name)) (sym (name_after pair renaming)) (others_stay pair name renaming.name _ _ _ _ refl refl refl refl name_stays is apart.0), rest)
-  one false is rest = rest
+    one : (stayed : Bool) → stays pair renaming ≡ stayed → AllByRecursion (IsOther (new_name pair name)) (renamed_names pair these)
+        → AllByRecursion (IsOther (new_name pair name)) (names_in (map (with_new_name pair) (cond stayed (renaming ∷ filter (stays pair) these) (filter (stays pair) these))))
+    one true is rest =
+        (subst (IsOther (new_name pair name)) (sym (name_after pair renaming)) (others_stay pair name renaming.name _ _ _ _ refl refl refl refl name_stays is apart.0), rest)
+    one false is rest = rest
 
 pair_distinct : (pair : RenamePair) (these : List Renaming) → AreDistinct (names_in these) → AreDistinct (renamed_names pair these)
 pair_distinct pair [] distinct = distinct
 pair_distinct pair (renaming ∷ these) distinct = one (stays pair renaming) refl (pair_distinct pair these (distinct_tail renaming.name (names_in these) distinct))
   where
-  one : (stayed : Bool) → stays pair renaming ≡ stayed → AreDistinct (renamed_names pair these)
-      → AreDistinct (names_in (map (with_new_name pair) (cond stayed (renaming ∷ filter (stays pair) these) (filter (stays pair) these))))
-  one true is rest =
-      subst (λ name. AreDistinct (name ∷ renamed_names pair these)) (sym (name_after pair renaming))
-      (distinct_cons (new_name pair renaming.name) (renamed_names pair these) (each_other pair renaming.name these is (distinct_head renaming.name (names_in these) distinct)) rest)
-  one false is rest = rest
+    one : (stayed : Bool) → stays pair renaming ≡ stayed → AreDistinct (renamed_names pair these)
+        → AreDistinct (names_in (map (with_new_name pair) (cond stayed (renaming ∷ filter (stays pair) these) (filter (stays pair) these))))
+    one true is rest =
+        subst (λ name. AreDistinct (name ∷ renamed_names pair these)) (sym (name_after pair renaming))
+        (distinct_cons (new_name pair renaming.name) (renamed_names pair these) (each_other pair renaming.name these is (distinct_head renaming.name (names_in these) distinct)) rest)
+    one false is rest = rest
 
 with_pair_distinct : (pair : RenamePair) (these : List Renaming) → AreDistinct (names_in these) → AreDistinct (names_in (with_pair these pair))
 with_pair_distinct pair these distinct =

@@ -1,8 +1,7 @@
 -- The columns that can be seen after what has been written are those of the shape.
-use Rattle.std.proofs.Common.{◌≡◌, ℕ, Bool, true, false, cond, List, [], ◌∷◌, fold, Option, Some, None, Result, Ok, Err, refl, ap, sym, ◌∙◌}
+use Rattle.std.proofs.Common.{◌≡◌, ℕ, Bool, true, false, cond, List, [], ◌∷◌, fold, Option, Some, None, Ok, Err, refl, ap, sym, ◌∙◌}
 use Rattle.esql_types.specs.declared.names.Column.{Column}
 use Rattle.esql_types.specs.declared.names.NodeId.{NodeId}
-use Rattle.esql_types.specs.declared.value.Kind.{Kind}
 use Rattle.esql_types.specs.declared.value.Kind.TheVariants as kind
 use Rattle.esql_types.specs.declared.places.Span.{Span}
 use Rattle.esql_ast.specs.declared.expr.Expr.{Expr}
@@ -15,19 +14,17 @@ use Rattle.esql_ast.specs.declared.query.CommandKind.TheVariants.{Filter, Eval, 
 use Rattle.esql_ast.specs.declared.query.SourceCommand.{SourceCommand}
 use Rattle.esql_ast.specs.declared.query.SourceCommand.TheVariants.{Tables, OneRow}
 use Rattle.esql_ast.specs.NameRules.{first_unmet, first_missing, keep_places, drop_places, at_places, renamings, renamed_by}
-use Rattle.esql_plan.specs.declared.catalog.Catalog.{Catalog}
-use Rattle.esql_plan.specs.declared.plan.OutColumn.{OutColumn}
 use Rattle.esql_plan.specs.Signatures.{is_kind}
 use Rattle.plan_semantics.specs.Plans.{columns_of}
 use Rattle.row_semantics.specs.Scopes.{Broken, Scope}
-use Rattle.row_semantics.specs.Kinds.{and_then, kind_or_rule}
+use Rattle.row_semantics.specs.Kinds.{kind_or_rule}
 use Rattle.row_semantics.specs.Fields.{name_of_field}
 use Rattle.row_semantics.specs.Columns.{names_of, put_column, column_as}
 use Rattle.row_semantics.specs.Sources.{columns_of_tables, columns_or_none}
 use Rattle.query_semantics.specs.Shapes.{Context, Shape, scope_over, shape_of_field, shape_of_fields, shape_of_condition, unless_unmet, unless_missing, shape_of_kind, unless_empty, shape_of_command, shape_of_commands, shape_of_source}
-use Rattle.query_semantics.specs.Written.{Writing, typed_in, put_visible, write_field, write_fields, write_kind, write_command, write_source, writing_of_columns}
+use Rattle.query_semantics.specs.Written.{Writing, typed_in, write_field, write_fields, write_kind, write_command, write_source, writing_of_columns}
 use Rattle.written_laws.proofs.Named.{columns_put, columns-kept, columns-left, columns-renamed}
-use Rattle.written_laws.proofs.Kinded.{Found, found_of, ok_is, expr_kinded}
+use Rattle.written_laws.proofs.Kinded.{found_of, ok_is, expr_kinded}
 use Rattle.written_laws.proofs.Sources.{columns_of-numbered}
 
 -- the columns that can be seen are these
@@ -58,7 +55,7 @@ field_shows context field columns after writing shows is =
     let name : List ℕ = name_of_field context.text field in
     let found = found_of (kind_or_rule field.expr scope) (λ kind. Ok (put_column columns name kind)) after is in
     let kinded : (typed_in writing field.expr).kind ≡ found.value =
-        expr_kinded field.expr (record { columns = writing.visible; calls = [] }) scope found.value (record { columns = shows; outside = refl }) found.is _ _ in
+    expr_kinded field.expr (record { columns = writing.visible; calls = [] }) scope found.value (record { columns = shows; outside = refl }) found.is _ _ in
     sym (ok_is found.next_is)
     ∙ (λ i. put_column (shows i) name (sym kinded i))
     ∙ columns_put writing.visible name (typed_in writing field.expr).kind writing.next

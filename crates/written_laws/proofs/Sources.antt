@@ -1,11 +1,10 @@
 -- The rows that a source gives by names are what is seen of those that it gives by numbers.
-use Rattle.std.proofs.Common.{◌≡◌, ℕ, ◌+◌, ◌<◌, ◌≤◌, ◌==◌, Bool, true, false, cond, List, [], ◌∷◌, ◌++◌, map, length, All, Option, Some, None, refl, ap, sym, subst, ◌∙◌, arith}
+use Rattle.std.proofs.Common.{◌≡◌, ℕ, ◌+◌, ◌<◌, ◌≤◌, ◌==◌, Bool, true, false, cond, List, [], ◌∷◌, map, length, All, Option, Some, None, refl, ap, sym, subst, ◌∙◌, arith}
 use Rattle.std.specs.Prelude.{slice_get}
 use Rattle.std.specs.List.{flat_map}
 use Rattle.std.proofs.lemmas.List.Elements.{All-nil, All-cons, All-weaker}
 use Rattle.esql_types.specs.declared.value.Value.{Value}
 use Rattle.esql_types.specs.declared.names.Column.{Column}
-use Rattle.esql_ast.specs.declared.query.NameAt.{NameAt}
 use Rattle.esql_ast.specs.declared.query.SourceCommand.{SourceCommand}
 use Rattle.esql_ast.specs.declared.query.SourceCommand.TheVariants.{Tables, OneRow}
 use Rattle.esql_plan.specs.declared.catalog.Catalog.{Catalog}
@@ -16,11 +15,10 @@ use Rattle.esql_plan.specs.declared.plan.ScanColumn.{ScanColumn}
 use Rattle.esql_plan.specs.Values.{NumberedRow}
 use Rattle.plan_semantics.specs.Tables.{TableHeld, catalog_tables, cell_named, empty_row, scan_row, scan_table, source_rows}
 use Rattle.plan_semantics.specs.Plans.{columns_of}
-use Rattle.row_semantics.specs.Rows.{Row}
 use Rattle.row_semantics.specs.declared.row.NamedCell.{NamedCell}
 use Rattle.row_semantics.specs.Sources.{tables_named, columns_of_tables, columns_or_none}
 use Rattle.query_semantics.specs.Meaning.{row_under, rows_under, rows_of_tables, one_row, rows_of_source, failures_of_source}
-use Rattle.query_semantics.specs.Written.{column_at, numbered_from, scan_column, writing_of_columns, source_in_plan, write_source}
+use Rattle.query_semantics.specs.Written.{numbered_from, scan_column, writing_of_columns, source_in_plan, write_source}
 use Rattle.written_laws.specs.Named.{named_cell, named_row}
 use Rattle.written_laws.proofs.Squares.{map_all, map_map, map_same, flat_map_same, map-flat_map}
 use Rattle.written_laws.proofs.Named.{IsBelow, AllBelow}
@@ -60,9 +58,9 @@ scan_named next (column ∷ columns) own cells =
     let all : NumberedRow = scan_row (scan_from next (column ∷ columns)) own cells in
     let first : all next ≡ cell_named own cells column.name = ap (λ (b : Bool). cond b (cell_named own cells column.name) (rest next)) (eq_itself next) in
     let others : named_row (numbered_from (next + 1) columns) all ≡ named_row (numbered_from (next + 1) columns) rest =
-        map_all (IsFrom (next + 1)) (named_cell all) (named_cell rest)
-        (λ out from. ap (λ (b : Bool). record { name = out.name; cell = cond b (cell_named own cells column.name) (rest out.id.0) }) (eq_above next out.id.0 (omega (arith, from))))
-        (numbered_from (next + 1) columns) (all_from (next + 1) columns) in
+    map_all (IsFrom (next + 1)) (named_cell all) (named_cell rest)
+    (λ out from. ap (λ (b : Bool). record { name = out.name; cell = cond b (cell_named own cells column.name) (rest out.id.0) }) (eq_above next out.id.0 (omega (arith, from))))
+    (numbered_from (next + 1) columns) (all_from (next + 1) columns) in
     λ i. record { name = column.name; cell = first i } ∷ (others ∙ scan_named (next + 1) columns own cells) i
 
 pub columns_of-numbered : (next : ℕ) (columns : List Column) → columns_of (numbered_from next columns) ≡ columns
@@ -93,8 +91,8 @@ pub source_stands : (text : List ℕ) (tables : List TableHeld) (catalog : Catal
     → Stands (source_rows tables (source_in_plan catalog command)) (rows_of_source text tables command) (failures_of_source text command) (write_source text catalog command)
 source_stands text tables catalog (Tables node span names) is =
     let StandsFor : List TableShape → Type 0 = λ shapes.
-        Stands (source_rows tables (source.Scan (tables_named shapes names) (scan_from 0 (columns_or_none (columns_of_tables shapes names))))) (rows_of_tables tables names) []
-        (writing_of_columns (columns_or_none (columns_of_tables shapes names))) in
+    Stands (source_rows tables (source.Scan (tables_named shapes names) (scan_from 0 (columns_or_none (columns_of_tables shapes names))))) (rows_of_tables tables names) []
+    (writing_of_columns (columns_or_none (columns_of_tables shapes names))) in
     subst StandsFor (sym is) (tables_stand tables (columns_or_none (columns_of_tables (catalog_tables tables) names)) (tables_named (catalog_tables tables) names))
 source_stands text tables catalog (OneRow node span fields) is =
     fields_stand text (empty_row ∷ []) fields one_row [] (writing_of_columns []) (record { rows_are = refl; failures_are = refl; below = All-nil (IsBelow 0) })

@@ -1,29 +1,28 @@
 -- The plan that a query is written as means what the query means.
-use Rattle.std.proofs.Common.{◌≡◌, ℕ, List, map, fold, Result, Ok, refl, ap, sym, ◌∙◌}
+use Rattle.std.proofs.Common.{◌≡◌, ℕ, List, map, Ok, ap, sym, ◌∙◌}
 use Rattle.std.proofs.lemmas.List.{append-nil}
 use Rattle.esql_types.specs.declared.names.Column.{Column}
-use Rattle.esql_types.specs.declared.names.NodeId.{NodeId}
 use Rattle.esql_ast.specs.declared.query.Query.{Query}
 use Rattle.esql_plan.specs.declared.catalog.Catalog.{Catalog}
 use Rattle.esql_plan.specs.Values.{NumberedRow}
 use Rattle.plan_semantics.specs.Tables.{TableHeld, catalog_tables, source_rows}
 use Rattle.plan_semantics.specs.Steps.{rows_after}
-use Rattle.plan_semantics.specs.Agrees.{PlanSeen, Agrees}
+use Rattle.plan_semantics.specs.Agrees.{Agrees}
 use Rattle.plan_semantics.specs.Plans.{columns_of, shown_row, plan_means}
 use Rattle.plan_semantics.proofs.Agreeing.{Agrees-same}
 use Rattle.row_semantics.specs.Regulars.{is_accepted}
-use Rattle.query_semantics.specs.Commands.{cells_of, rows_of_commands, failures_of_commands}
+use Rattle.query_semantics.specs.Commands.{cells_of}
 use Rattle.query_semantics.specs.Cuts.{last_count}
-use Rattle.query_semantics.specs.Meaning.{Meaning, meaning_of, shown_under, rows_of_source, failures_of_source}
+use Rattle.query_semantics.specs.Meaning.{meaning_of, shown_under}
 use Rattle.query_semantics.specs.Shapes.{Context, shape_of, shape_of_source, shape_of_commands}
-use Rattle.query_semantics.specs.Written.{Writing, source_in_plan, write_source, write_command, writing_of, written_of}
+use Rattle.query_semantics.specs.Written.{Writing, source_in_plan, write_source, writing_of, written_of}
 use Rattle.written_laws.specs.Named.{named_row}
 use Rattle.written_laws.proofs.Squares.{map_map, map_same}
 use Rattle.written_laws.proofs.Named.{cells_of-named}
 use Rattle.written_laws.proofs.Kinded.{found_of}
-use Rattle.written_laws.proofs.Commands.{Stands, commands_stand, limit_stands}
+use Rattle.written_laws.proofs.Commands.{commands_stand, limit_stands}
 use Rattle.written_laws.proofs.Sources.{source_stands}
-use Rattle.written_laws.proofs.Shown.{Shows, source_shows, commands_show}
+use Rattle.written_laws.proofs.Shown.{source_shows, commands_show}
 
 -- the rows that the source of the written plan gives
 abbrev pub start_of : List TableHeld → Catalog → Query → List NumberedRow
@@ -59,8 +58,8 @@ plan_is_meaning text tables catalog query columns tables_are is =
     let writing : Writing = writing_of text catalog query in
     let after : List NumberedRow = rows_after writing.steps (start_of tables catalog query) in
     let rows = ap (map cells_of) (rows_are text tables catalog query tables_are)
-        ∙ map_map cells_of (named_row writing.visible) after
-        ∙ map_same (λ (row : NumberedRow). cells_of (named_row writing.visible row)) (shown_row writing.visible) (cells_of-named writing.visible) after in
+    ∙ map_map cells_of (named_row writing.visible) after
+    ∙ map_same (λ (row : NumberedRow). cells_of (named_row writing.visible row)) (shown_row writing.visible) (cells_of-named writing.visible) after in
     let columns_is = columns_are text catalog query columns is in
     let failures = failures_are text tables catalog query tables_are in
     λ i. record { columns = sym columns_is i; rows = sym rows i; failures = sym failures i }
