@@ -3,3 +3,4 @@ pub mod Written
 pub mod Cuts
 pub mod Commands
 pub mod Meaning
+pub mod Places

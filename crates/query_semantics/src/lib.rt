@@ -3,3 +3,7 @@
 //!
 //! Read its specs in this order: `Shapes`, `Commands`, `Cuts`, `Meaning`, `Written`.
 #![tactic(auto)]
+
+mod laws;
+
+pub use laws::{broken_rules_have_places, broken_rules_of_expressions_have_places};
