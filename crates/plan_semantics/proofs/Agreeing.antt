@@ -1,6 +1,8 @@
 -- To agree is an equivalence.
-use Rattle.std.proofs.Common.{◌≡◌, refl, ap, sym, subst, ◌∙◌}
-use Rattle.plan_semantics.specs.Agrees.{PlanSeen, Agrees, causes_at}
+use Rattle.std.proofs.Common.{◌≡◌, List, ◌++◌, refl, ap, sym, ◌∙◌}
+use Rattle.esql_types.specs.declared.cause.Failure.{Failure}
+use Rattle.plan_semantics.specs.Agrees.{PlanSeen, Agrees, AgreeAtNodes, causes_at}
+use Rattle.plan_semantics.proofs.Transposed.{causes-append}
 
 pub Agrees-itself : (this : PlanSeen) → Agrees this this
 Agrees-itself this = record { columns = refl; rows = refl; failures = λ node. refl }
@@ -21,3 +23,6 @@ Agrees-same this that same = record {
   rows = ap (λ (seen : PlanSeen). seen.rows) same;
   failures = λ node. ap (λ (seen : PlanSeen). causes_at node seen.failures) same;
 }
+
+pub AgreeAtNodes-append : (these those xs ys : List Failure) → AgreeAtNodes these those → AgreeAtNodes xs ys → AgreeAtNodes (these ++ xs) (those ++ ys)
+AgreeAtNodes-append these those xs ys first second node = causes-append node these xs ∙ (λ i. first node i ++ second node i) ∙ sym (causes-append node those ys)

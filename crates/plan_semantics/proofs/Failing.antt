@@ -1,11 +1,10 @@
 -- The value of an expression fails as its parts do.
-use Rattle.std.proofs.Common.{◌≡◌, ℕ, ◌+◌, ◌≤◌, Bool, true, false, List, [], ◌∷◌, ◌++◌, map, All, Option, refl, ap, sym, subst, ◌∙◌, arith, cond, if◌then◌else◌}
+use Rattle.std.proofs.Common.{◌≡◌, ℕ, ◌+◌, ◌≤◌, Bool, true, false, List, [], ◌∷◌, ◌++◌, map, All, refl, ap, sym, subst, ◌∙◌, arith, cond, if◌then◌else◌}
 use Rattle.std.specs.Prelude.{not}
 use Rattle.std.specs.List.{flat_map}
 use Rattle.std.proofs.lemmas.List.{append-nil, map-append}
 use Rattle.std.proofs.lemmas.Grind.{flat_map-append}
-use Rattle.std.proofs.lemmas.List.Elements.{All-nil, All-cons, All-head, All-tail, All-map}
-use Rattle.esql_types.specs.declared.value.Value.{Value}
+use Rattle.std.proofs.lemmas.List.Elements.{All-head, All-tail, All-map}
 use Rattle.esql_types.specs.declared.cause.Cause.{Cause}
 use Rattle.esql_types.specs.declared.cause.Failure.{Failure}
 use Rattle.esql_types.specs.declared.names.NodeId.{NodeId}
@@ -13,7 +12,7 @@ use Rattle.esql_plan.specs.declared.function.Function.{Function}
 use Rattle.esql_plan.specs.declared.typed.TypedExpr.{TypedExpr}
 use Rattle.esql_plan.specs.Rules.{Rule, singles, each, list_and_singles, lists, tests, logic, membership, conditions, alternatives, multi_of, truth_in, is_null}
 use Rattle.esql_plan.specs.Functions.{rule_of}
-use Rattle.esql_plan.specs.Values.{Valued, NumberedRow, silent, failures_at, behind, cells_of, applied, applied_by, case_of, coalesce_of, is_met, value_of_typed}
+use Rattle.esql_plan.specs.Values.{Valued, NumberedRow, failures_at, behind, cells_of, applied, applied_by, case_of, coalesce_of, is_met, value_of_typed}
 use Rattle.esql_plan.proofs.TypedFolds.{map_map, value_of_constant, value_of_column, value_of_call}
 use Rattle.esql_plan.proofs.Inductions.{typed_ind}
 use Rattle.plan_semantics.specs.Agrees.{causes_at}
@@ -60,10 +59,10 @@ module _ (test : NumberedRow → Bool) (row : NumberedRow) where
 
 module _ (node : NodeId) (row : NumberedRow) where
   -- how many parts fail at the node
-  abbrev fails : List FalliblePart → ℕ
+  abbrev pub fails : List FalliblePart → ℕ
   fails parts = count_of (fails_at node) (on parts row)
 
-  abbrev causes : List Failure → List Cause
+  abbrev pub causes : List Failure → List Cause
   causes failures = causes_at node failures
 
   -- what the value fails with at the node is what the parts do, where one of them fails at most
@@ -77,7 +76,7 @@ module _ (node : NodeId) (row : NumberedRow) where
   caused-append xs ys = ap causes (flat_map-append (λ (part : FalliblePart). part row) xs ys) ∙ causes-append node (fails_in xs row) (fails_in ys row)
 
   -- parts of which none fails
-  none_fails : (parts : List FalliblePart) → fails parts ≤ 0 → causes (fails_in parts row) ≡ []
+  pub none_fails : (parts : List FalliblePart) → fails parts ≤ 0 → causes (fails_in parts row) ≡ []
   none_fails [] none = refl
   none_fails (part ∷ parts) none =
       causes-append node (part row) (fails_in parts row)
@@ -171,9 +170,9 @@ module _ (node : NodeId) (row : NumberedRow) where
         ∙ ap (λ (b : Bool). causes (multi condition) ++ causes (failures_at own (if b then [] else case_causes (cells_of (values_on rest row))))) is
         ∙ ap (λ behind. causes (multi condition) ++ causes behind) (by_case b)
       where
-      by_case : (b : Bool) → failures_at own (if b then [] else case_causes (cells_of (values_on rest row))) ≡ (if b then [] else case_failures rest)
-      by_case true = refl
-      by_case false = refl
+        by_case : (b : Bool) → failures_at own (if b then [] else case_causes (cells_of (values_on rest row))) ≡ (if b then [] else case_failures rest)
+        by_case true = refl
+        by_case false = refl
 
     -- the parts of the part behind a condition, and of the rest
     abbrev there : Parted → Parted → List FalliblePart

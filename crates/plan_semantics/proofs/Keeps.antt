@@ -1,6 +1,6 @@
 -- A step of a well formed plan keeps the columns that are made before it.
-use Rattle.std.proofs.Common.{◌≡◌, ℕ, ◌==◌, Bool, true, false, List, [], ◌∷◌, map, All, refl, sym, ◌∙◌, if◌then◌else◌, arith}
-use Rattle.std.proofs.lemmas.List.Elements.{All-nil, All-cons, All-head, All-tail, All-map}
+use Rattle.std.proofs.Common.{◌≡◌, ℕ, ◌==◌, Bool, true, false, List, [], ◌∷◌, map, All, refl, if◌then◌else◌, arith}
+use Rattle.std.proofs.lemmas.List.Elements.{All-nil, All-cons, All-head, All-tail}
 use Rattle.esql_types.specs.declared.value.Value.{Value}
 use Rattle.esql_types.specs.declared.names.ColId.{ColId}
 use Rattle.esql_plan.specs.declared.step.Step.{Step}
@@ -11,15 +11,15 @@ use Rattle.plan_semantics.specs.Steps.{is_true, expanded, step_gives}
 use Rattle.plan_semantics.specs.WellFormed.{Bounds, MadeColumn, IsNew, StepStands}
 use Rattle.plan_semantics.specs.Laws.{IsKept}
 
-other_number : (n m : ℕ) → n == m ≡ false → m == n ≡ false
+pub other_number : (n m : ℕ) → n == m ≡ false → m == n ≡ false
 other_number n m is = grind arith
 
 pub cell_kept : (row : NumberedRow) (id other : ℕ) (cell : List Value) → id == other ≡ false → with_cell row id cell other ≡ row other
 cell_kept row id other cell is = by_case (other == id) (other_number id other is)
   where
-  by_case : (b : Bool) → b ≡ false → (if b then cell else row other) ≡ row other
-  by_case false is = refl
-  by_case true is = absurd cc
+    by_case : (b : Bool) → b ≡ false → (if b then cell else row other) ≡ row other
+    by_case false is = refl
+    by_case true is = absurd cc
 
 pub kept_at_new : (made : List MadeColumn) (to : ColId) (row : NumberedRow) (cell : List Value) → IsNew made to → IsKept made row (with_cell row to.0 cell)
 kept_at_new [] to row cell new = All-nil (λ (column : MadeColumn). with_cell row to.0 cell column.id ≡ row column.id)

@@ -5,3 +5,12 @@ pub mod Keeps
 pub mod PartedFolds
 pub mod Transposed
 pub mod Failing
+pub mod FailingSteps
+pub mod OwnNodes
+pub mod ResultKinds
+pub mod ValueKinds
+pub mod RowKinds
+pub mod RowByRow
+pub mod Standing
+pub mod Orderly
+pub mod Below

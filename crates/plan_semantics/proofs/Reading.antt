@@ -1,15 +1,14 @@
 -- The value of an expression depends on the columns that it reads alone.
-use Rattle.std.proofs.Common.{◌≡◌, ℕ, Bool, true, false, List, [], ◌∷◌, ◌++◌, map, All, Option, refl, ap, sym, subst, ◌∙◌, if◌then◌else◌}
+use Rattle.std.proofs.Common.{◌≡◌, ℕ, Bool, true, false, List, [], ◌∷◌, map, All, refl, ap, sym, subst, ◌∙◌, if◌then◌else◌}
 use Rattle.std.specs.List.{flat_map}
 use Rattle.std.proofs.lemmas.List.Elements.{All-nil, All-cons, All-head, All-tail}
 use Rattle.esql_types.proofs.Lists.{All-front, All-back}
 use Rattle.esql_types.specs.declared.value.Value.{Value}
 use Rattle.esql_types.specs.declared.value.Kind.{Kind}
-use Rattle.esql_plan.specs.declared.function.Function.{Function}
 use Rattle.esql_plan.specs.declared.typed.TypedExpr.{TypedExpr}
-use Rattle.esql_plan.specs.Values.{Valued, NumberedRow, silent, applied, value_of_typed}
+use Rattle.esql_plan.specs.Values.{NumberedRow, silent, applied, value_of_typed}
 use Rattle.esql_plan.specs.Fits.{ReadColumn, columns_read}
-use Rattle.esql_plan.proofs.TypedFolds.{value_of_constant, value_of_column, value_of_call, columns_of_constant, columns_of_column, columns_of_call}
+use Rattle.esql_plan.proofs.TypedFolds.{value_of_constant, value_of_column, value_of_call, columns_of_column, columns_of_call}
 use Rattle.esql_plan.proofs.Inductions.{typed_ind}
 use Rattle.plan_semantics.specs.Laws.{AreSameAt}
 

@@ -1,6 +1,5 @@
 -- Steps one after another.
-use Rattle.std.proofs.Common.{◌≡◌, ℕ, List, [], ◌∷◌, ◌++◌, refl, ap, sym, ◌∙◌, append_assoc}
-use Rattle.esql_types.specs.declared.cause.Failure.{Failure}
+use Rattle.std.proofs.Common.{◌≡◌, List, [], ◌∷◌, ◌++◌, refl, ap, sym, ◌∙◌, append_assoc}
 use Rattle.esql_plan.specs.declared.step.Step.{Step}
 use Rattle.esql_plan.specs.Values.{NumberedRow}
 use Rattle.plan_semantics.specs.Steps.{step_rows, step_failures, rows_after, failures_after}

@@ -1,7 +1,7 @@
 -- Where a node fails in one part at most, its causes are the same row by row as part by part.
 use Rattle.std.proofs.Common.{◌≡◌, ℕ, ◌+◌, ◌≤◌, ◌==◌, Bool, true, false, List, [], ◌∷◌, ◌++◌, map, filter, refl, ap, sym, ◌∙◌, arith, cond, if◌then◌else◌}
 use Rattle.std.specs.Prelude.{◌||◌}
-use Rattle.std.specs.List.{flat_map, list_any}
+use Rattle.std.specs.List.{flat_map}
 use Rattle.std.proofs.lemmas.List.{append-nil, map-append}
 use Rattle.std.proofs.lemmas.List.Elements.{filter-append}
 use Rattle.esql_types.specs.declared.cause.Cause.{Cause}
@@ -43,16 +43,16 @@ module _ (node : NodeId) where
   quiet [] is = refl
   quiet (failure ∷ xs) is =
       elim (failure.node.0 == node.0) as (λ b. b || fails_at node xs ≡ false
-        → map (λ (failure : Failure). failure.cause) (if b then failure ∷ filter (λ (failure : Failure). failure.node.0 == node.0) xs else filter (λ (failure : Failure). failure.node.0 == node.0) xs) ≡ [])
+      → map (λ (failure : Failure). failure.cause) (if b then failure ∷ filter (λ (failure : Failure). failure.node.0 == node.0) xs else filter (λ (failure : Failure). failure.node.0 == node.0) xs) ≡ [])
       [ true ↦ λ no. absurd cc | false ↦ λ no. quiet xs no ] is
 
   -- a part that is quiet is one that does not count
   pub uncounted : (xs : List Failure) (others : ℕ) → (if fails_at node xs then 1 else 0) + others ≤ 0 → causes_at node xs ≡ []
   uncounted xs others none = by_case (fails_at node xs) refl
     where
-    by_case : (b : Bool) → fails_at node xs ≡ b → causes_at node xs ≡ []
-    by_case false is = quiet xs is
-    by_case true is = absurd (let one = ap (λ (b : Bool). cond {A = ℕ} b 1 0) is in omega (arith, one, none))
+      by_case : (b : Bool) → fails_at node xs ≡ b → causes_at node xs ≡ []
+      by_case false is = quiet xs is
+      by_case true is = absurd (let one = ap (λ (b : Bool). cond {A = ℕ} b 1 0) is in omega (arith, one, none))
 
   -- where the first of two is quiet, or the second, there is the other alone
   pub second_alone : {Row : Type 0} (f g : Row → List Failure) (rows : List Row) → causes_at node (flat_map f rows) ≡ []
@@ -118,11 +118,11 @@ module _ (node : NodeId) where
   fewer : (this that : List Failure) → (fails_at node this ≡ true → fails_at node that ≡ true) → cond {A = ℕ} (fails_at node this) 1 0 ≤ cond {A = ℕ} (fails_at node that) 1 0
   fewer this that so = by_cases (fails_at node this) (fails_at node that) so
     where
-    by_cases : (b c : Bool) → (b ≡ true → c ≡ true) → cond {A = ℕ} b 1 0 ≤ cond {A = ℕ} c 1 0
-    by_cases true true so = omega arith
-    by_cases true false so = absurd (let no : false ≡ true = so refl in cc)
-    by_cases false true so = omega arith
-    by_cases false false so = omega arith
+      by_cases : (b c : Bool) → (b ≡ true → c ≡ true) → cond {A = ℕ} b 1 0 ≤ cond {A = ℕ} c 1 0
+      by_cases true true so = omega arith
+      by_cases true false so = absurd (let no : false ≡ true = so refl in cc)
+      by_cases false true so = omega arith
+      by_cases false false so = omega arith
 
   pub fails_first : {Row : Type 0} (parts : List (Row → List Failure)) (row : Row) (rows : List Row)
       → count_of (fails_at node) (on parts row) ≤ count_of (fails_at node) (over parts (row ∷ rows))

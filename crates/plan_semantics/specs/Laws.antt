@@ -1,12 +1,21 @@
 -- What the laws of plans say.
-use Rattle.std.specs.Prelude.{◌≡◌, ℕ, Bool, true, List, [], ◌∷◌, ◌++◌, All, if◌then◌else◌}
+use Rattle.std.specs.List.{flat_map, AllZip}
+use Rattle.std.specs.Prelude.{◌≡◌, ◌<◌, ℕ, true, List, [], ◌∷◌, ◌++◌, All}
+use Rattle.esql_types.specs.declared.cause.Failure.{Failure}
+use Rattle.esql_plan.specs.declared.catalog.Catalog.{Catalog}
+use Rattle.esql_plan.specs.declared.plan.Plan.{Plan}
+use Rattle.esql_plan.specs.declared.plan.OutColumn.{OutColumn}
 use Rattle.esql_plan.specs.declared.step.Step.{Step}
+use Rattle.esql_plan.specs.declared.step.Step.TheVariants.{Eval, Filter, Sort, TopN, Limit, Expand, Stats, Dissect, Grok, Enrich}
 use Rattle.esql_plan.specs.declared.typed.TypedExpr.{TypedExpr}
 use Rattle.esql_plan.specs.Values.{NumberedRow, value_of_typed}
-use Rattle.esql_plan.specs.Fits.{ReadColumn, columns_read}
-use Rattle.plan_semantics.specs.Steps.{step_gives, rows_after, failures_after}
-use Rattle.plan_semantics.specs.Agrees.{PlanSeen, Agrees}
-use Rattle.plan_semantics.specs.WellFormed.{Bounds, MadeColumn, StepStands}
+use Rattle.esql_plan.specs.Fits.{ReadColumn, ExprFits, RowFits, columns_read, has_kind}
+use Rattle.plan_semantics.specs.Steps.{step_gives, step_rows, rows_after, failures_after}
+use Rattle.plan_semantics.specs.Agrees.{PlanSeen, Agrees, AgreeAtNodes}
+use Rattle.plan_semantics.specs.Plans.{plan_means}
+use Rattle.plan_semantics.specs.Parts.{parted, fails_in, plan_parts, IsOrderly, IsExprOrderly}
+use Rattle.plan_semantics.specs.Tables.{TableHeld, catalog_tables, source_rows}
+use Rattle.plan_semantics.specs.WellFormed.{Bounds, MadeColumn, StepStands, StepsStand, HaveOwnNodes, RowHas, steps_made, AreTables, StepsFit, IsWellFormed, ExprStands}
 
 -- Steps one after another ----------------------------------------------------------------------------------------------------
 
@@ -52,3 +61,61 @@ AgreeThrough = (this that other : PlanSeen) → Agrees this that → Agrees that
 
 abbrev pub EqualAgree : Type 0
 EqualAgree = (this that : PlanSeen) → this ≡ that → Agrees this that
+
+-- Parts that can fail ----------------------------------------------------------------------------------------------------------------
+
+-- over rows on which an expression is orderly, its value fails at each node as its parts do, row by row
+abbrev pub FailsByRows : Type 0
+FailsByRows = (expr : TypedExpr) (rows : List NumberedRow) → IsExprOrderly expr rows
+    → AgreeAtNodes (flat_map (λ row. (value_of_typed expr row).failures) rows) (flat_map (fails_in (parted expr).parts) rows)
+
+-- and part by part, each over all rows
+abbrev pub FailsByParts : Type 0
+FailsByParts = (expr : TypedExpr) (rows : List NumberedRow) → IsExprOrderly expr rows
+    → AgreeAtNodes (flat_map (λ row. (value_of_typed expr row).failures) rows) (flat_map (λ part. flat_map part rows) (parted expr).parts)
+
+-- an orderly plan fails at each node as its parts do, one after another
+abbrev pub PlanFailsByParts : Type 0
+PlanFailsByParts = (plan : Plan) (tables : List TableHeld) → IsOrderly plan tables
+    → AgreeAtNodes (plan_means plan tables).failures (flat_map (λ failures. failures) (plan_parts plan tables))
+
+-- a plan in which no two parts have one node is orderly on all tables
+abbrev pub OwnNodesAreOrderly : Type 0
+OwnNodesAreOrderly = (plan : Plan) → HaveOwnNodes plan.steps → (tables : List TableHeld) → IsOrderly plan tables
+
+-- Kinds ---------------------------------------------------------------------------------------------------------------------------------
+
+-- the value of a well formed expression, on a row with cells of their kinds in the columns that it reads, has its kind
+abbrev pub ValuesHaveTheirKind : Type 0
+ValuesHaveTheirKind = (whole free : List (List ℕ)) (expr : TypedExpr) (row : NumberedRow)
+    → ExprFits whole free expr → RowFits expr row → has_kind expr.kind (value_of_typed expr row).cell ≡ true
+
+-- the rows after steps have a cell of its kind in each column that is made
+abbrev pub RowsKeepKinds : Type 0
+RowsKeepKinds = (bounds : Bounds) (output : List OutColumn) (made : List MadeColumn) (steps : List Step) → StepsStand bounds output made steps
+    → (rows : List NumberedRow) → All (RowHas made) rows → All (RowHas (steps_made made steps)) (rows_after steps rows)
+
+-- over tables of the catalog each expression of a well formed plan fits each row that it is evaluated on
+abbrev pub PlansFitRows : Type 0
+PlansFitRows = (catalog : Catalog) (whole free : List (List ℕ)) (plan : Plan) (tables : List TableHeld)
+    → IsWellFormed catalog whole free plan → AreTables catalog tables → StepsFit plan.steps (source_rows tables plan.source)
+
+-- over tables of the catalog a well formed plan shows rows with a cell of its kind for each of its columns
+abbrev pub PlansShowKinds : Type 0
+PlansShowKinds = (catalog : Catalog) (whole free : List (List ℕ)) (plan : Plan) (tables : List TableHeld)
+    → IsWellFormed catalog whole free plan → AreTables catalog tables
+    → All (λ cells. AllZip (λ column cell. has_kind column.kind cell ≡ true) (plan_means plan tables).columns cells) (plan_means plan tables).rows
+
+-- the failures of nodes below a number
+abbrev pub AreBelow : ℕ → List Failure → Type 0
+AreBelow nodes failures = All (λ failure. failure.node.0 < nodes) failures
+
+-- an expression of a well formed plan fails at nodes below the plan's number
+abbrev pub ValuesFailBelow : Type 0
+ValuesFailBelow = (bounds : Bounds) (made : List MadeColumn) (expr : TypedExpr) → ExprStands bounds made expr
+    → (row : NumberedRow) → AreBelow bounds.nodes (value_of_typed expr row).failures
+
+-- a well formed plan fails at nodes below its number, on all tables
+abbrev pub PlansFailBelow : Type 0
+PlansFailBelow = (catalog : Catalog) (whole free : List (List ℕ)) (plan : Plan) → IsWellFormed catalog whole free plan
+    → (tables : List TableHeld) → AreBelow plan.nodes (plan_means plan tables).failures

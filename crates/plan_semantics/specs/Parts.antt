@@ -151,7 +151,7 @@ AreOrderly steps rows = (node : NodeId) → count_of (fails_at node) (parts_afte
 
 -- each node fails in one part of the plan at most
 abbrev pub IsOrderly : Plan → List TableHeld → Type 0
-IsOrderly plan tables = (node : NodeId) → count_of (fails_at node) (plan_parts plan tables) ≤ 1
+IsOrderly plan tables = AreOrderly plan.steps (source_rows tables plan.source)
 
 -- each node fails in one part of the expression at most, over these rows
 abbrev pub IsExprOrderly : TypedExpr → List NumberedRow → Type 0

@@ -20,8 +20,9 @@ use Rattle.esql_plan.specs.declared.step.Step.{Step}
 use Rattle.esql_plan.specs.declared.step.Step.TheVariants.{Eval, Filter, Sort, TopN, Limit, Expand, Stats, Dissect, Grok, Enrich}
 use Rattle.esql_plan.specs.Signatures.{is_kind}
 use Rattle.esql_plan.specs.Values.{NumberedRow}
-use Rattle.esql_plan.specs.Fits.{ExprFits, columns_read, has_kind}
-use Rattle.plan_semantics.specs.Tables.{TableHeld}
+use Rattle.esql_plan.specs.Fits.{ExprFits, RowFits, columns_read, has_kind}
+use Rattle.plan_semantics.specs.Tables.{TableHeld, catalog_tables}
+use Rattle.plan_semantics.specs.Steps.{step_rows}
 
 -- Columns that are made ------------------------------------------------------------------------------------------------------------
 
@@ -185,3 +186,28 @@ RowHas made row = All (λ column. has_kind column.kind (row column.id) ≡ true)
 -- each row has a cell of its kind for each column
 abbrev pub IsTable : TableHeld → Type 0
 IsTable table = All (λ cells. AllZip (λ column cell. has_kind column.kind cell ≡ true) table.shape.columns cells) table.rows
+
+-- tables of the catalog, with cells of their columns' kinds
+pub record AreTables (catalog : Catalog) (tables : List TableHeld) : Type 0 where
+  pub shapes : catalog.tables ≡ catalog_tables tables
+  pub kinds : All IsTable tables
+
+-- Rows that come to steps ----------------------------------------------------------------------------------------------------------------
+
+-- the expression of a step fits a row that comes to it
+abbrev pub StepFits : Step → NumberedRow → Type 0
+StepFits (Eval to expr) row = RowFits expr row
+StepFits (Filter node condition) row = RowFits condition row
+StepFits (Expand id to) row = Unit {0}
+StepFits (Sort keys) row = Unit {0}
+StepFits (TopN keys count) row = Unit {0}
+StepFits (Limit count) row = Unit {0}
+StepFits (Stats aggregates groups) row = Unit {0}
+StepFits (Dissect node input cutter to) row = Unit {0}
+StepFits (Grok node input cutter to) row = Unit {0}
+StepFits (Enrich policy on fields to) row = Unit {0}
+
+-- the expression of each step fits each row that comes to it
+abbrev pub StepsFit : List Step → List NumberedRow → Type 0
+StepsFit [] rows = Unit {0}
+StepsFit (step ∷ steps) rows = All (StepFits step) rows × StepsFit steps (step_rows step rows)

@@ -1,0 +1,5 @@
+use Rattle.plan_semantics.proofs.RowKinds.{plan_fits_rows}
+use Rattle.plan_semantics.proofs.laws.plans_fit_rows.Goals as goal
+
+pub returns : goal.returns
+returns c = plan_fits_rows
