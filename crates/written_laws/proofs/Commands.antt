@@ -1,22 +1,20 @@
 -- Each command does to rows of names what its steps do to rows of numbers.
-use Rattle.std.proofs.Common.{◌≡◌, ℕ, ◌+◌, List, [], ◌∷◌, ◌++◌, map, filter, fold, take, refl, ap, sym, subst, ◌∙◌, append_assoc}
-use Rattle.std.specs.List.{flat_map}
+use Rattle.std.proofs.Common.{◌≡◌, ℕ, List, [], ◌∷◌, ◌++◌, map, fold, take, refl, ap, sym, subst, ◌∙◌, append_assoc}
 use Rattle.std.proofs.lemmas.List.{append-nil, take-map}
 use Rattle.esql_types.specs.declared.names.NodeId.{NodeId}
 use Rattle.esql_types.specs.declared.cause.Failure.{Failure}
-use Rattle.esql_types.specs.declared.value.Kind.{Kind}
 use Rattle.esql_ast.specs.declared.expr.Expr.{Expr}
 use Rattle.esql_ast.specs.declared.query.Field.{Field}
 use Rattle.esql_ast.specs.declared.query.Command.{Command}
 use Rattle.esql_ast.specs.declared.query.CommandKind.{CommandKind}
-use Rattle.esql_ast.specs.declared.query.CommandKind.TheVariants.{Filter, Eval, Keep, Drop, Rename, Sort, Limit, Expand, Stats, Dissect, Grok, Enrich, Join}
+use Rattle.esql_ast.specs.declared.query.CommandKind.TheVariants.{Filter, Eval, Keep, Drop, Rename, Limit}
 use Rattle.esql_plan.specs.declared.plan.OutColumn.{OutColumn}
 use Rattle.esql_plan.specs.declared.step.Step.{Step}
 use Rattle.esql_plan.specs.declared.step.Step.TheVariants as step
 use Rattle.esql_plan.specs.declared.typed.TypedExpr.{TypedExpr}
 use Rattle.esql_plan.specs.Values.{Valued, NumberedRow, value_of_typed}
 use Rattle.plan_semantics.specs.Tables.{with_cell}
-use Rattle.plan_semantics.specs.Steps.{is_true, failures_of_condition, step_gives, step_fails, step_rows, step_failures, rows_after, failures_after}
+use Rattle.plan_semantics.specs.Steps.{is_true, failures_of_condition, step_fails, step_rows, step_failures, rows_after, failures_after}
 use Rattle.plan_semantics.proofs.Splits.{rows_after-append, failures_after-append}
 use Rattle.row_semantics.specs.Rows.{Row, put}
 use Rattle.row_semantics.specs.Fields.{name_of_field}
@@ -65,9 +63,9 @@ module _ (start : List NumberedRow) (rows : List Row) (failures : List Failure) 
       let visible : List OutColumn = put_visible writing.visible name typed.kind writing.next in
       let valued : (row : NumberedRow) → value_in_row field.expr (named_row writing.visible row) ≡ value_of_typed typed row = λ row. sym (expr_valued field.expr writing.visible _ _ row) in
       let one : (row : NumberedRow) → row_with_field text field (named_row writing.visible row) ≡ named_row visible (with_cell row writing.next (value_of_typed typed row).cell) =
-          λ row.
-          ap (λ (these : Valued). put (named_row writing.visible row) name these.cell) (valued row)
-          ∙ named_put writing.visible row name typed.kind writing.next (value_of_typed typed row).cell stands.below in
+      λ row.
+      ap (λ (these : Valued). put (named_row writing.visible row) name these.cell) (valued row)
+      ∙ named_put writing.visible row name typed.kind writing.next (value_of_typed typed row).cell stands.below in
       record {
         rows_are = rows_pushed visible new (map (row_with_field text field))
             (map_square (row_with_field text field) (named_row writing.visible) (named_row visible) (λ (row : NumberedRow). with_cell row writing.next (value_of_typed typed row).cell) one so_far);
@@ -110,9 +108,9 @@ module _ (start : List NumberedRow) (rows : List Row) (failures : List Failure) 
     below = stands.below;
   }
     where
-    none_failing : (rows : List NumberedRow) → [] ≡ step_failures (step.Limit count) rows
-    none_failing [] = refl
-    none_failing (row ∷ rows) = none_failing rows
+      none_failing : (rows : List NumberedRow) → [] ≡ step_failures (step.Limit count) rows
+      none_failing [] = refl
+      none_failing (row ∷ rows) = none_failing rows
 
   unbuilt_stands : Stands start rows (failures ++ []) writing
   unbuilt_stands = record { rows_are = stands.rows_are; failures_are = append-nil failures ∙ stands.failures_are; below = stands.below }

@@ -1,6 +1,5 @@
 -- The typed form of an expression has the kind that the expression is found to have.
 use Rattle.std.proofs.Common.{◌≡◌, ℕ, ◌+◌, Bool, true, false, cond, List, [], ◌∷◌, map, length, Option, Some, None, Result, Ok, Err, refl, ap, sym, subst, ◌∙◌}
-use Rattle.std.specs.Prelude.{if◌then◌else◌}
 use Rattle.std.specs.Str.{bytes_eq}
 use Rattle.esql_types.specs.declared.places.Span.{Span}
 use Rattle.esql_types.specs.declared.names.Column.{Column}
@@ -17,8 +16,8 @@ use Rattle.row_semantics.specs.Forms.{Part, Seen, constant, named, same, applied
 use Rattle.row_semantics.specs.Regulars.{Regular}
 use Rattle.row_semantics.specs.Scopes.{Broken, Scope, elsewhere, column_named}
 use Rattle.row_semantics.specs.Kinds.{Judged, and_then, kinds_of_parts, kind_of_column, kind_of_applied, kind_of_standing, fitting, if_accepted, judged, kind_or_rule}
-use Rattle.row_semantics.specs.Typed.{Visible, Typing, visible_named, typed_null, typed_column, typed_parts, typing, typing_of, typed_of}
-use Rattle.written_laws.proofs.Readings.{part_with, parts_with, seen_with, IsMade, read_made}
+use Rattle.row_semantics.specs.Typed.{Visible, Typing, visible_named, typed_column, typed_parts, typing, typed_of}
+use Rattle.written_laws.proofs.Readings.{part_with, parts_with, seen_with, read_made}
 use Rattle.written_laws.proofs.Valued.{function_with, arguments_with}
 
 -- an expression stands outside STATS, over the columns that can be seen
@@ -38,16 +37,16 @@ typing_in both = both.typing
 abbrev judged_in : Both → Judged
 judged_in both = both.judged
 
-ok_is : {A : Type 0} {this that : A} → ◌≡◌ {A = Result A Broken} (Ok this) (Ok that) → this ≡ that
+pub ok_is : {A : Type 0} {this that : A} → ◌≡◌ {A = Result A Broken} (Ok this) (Ok that) → this ≡ that
 ok_is e = cc
 
 -- what is found behind something that was found
-record Found {A B : Type 0} (first : Result A Broken) (next : A → Result B Broken) (last : B) : Type 0 where
-  value : A
-  is : first ≡ Ok value
-  next_is : next value ≡ Ok last
+pub record Found {A B : Type 0} (first : Result A Broken) (next : A → Result B Broken) (last : B) : Type 0 where
+  pub value : A
+  pub is : first ≡ Ok value
+  pub next_is : next value ≡ Ok last
 
-found_of : {A B : Type 0} (first : Result A Broken) (next : A → Result B Broken) (last : B) → and_then first next ≡ Ok last → Found first next last
+pub found_of : {A B : Type 0} (first : Result A Broken) (next : A → Result B Broken) (last : B) → and_then first next ≡ Ok last → Found first next last
 found_of (Ok value) next last is = record { value = value; is = refl; next_is = is }
 found_of (Err broken) next last is = absurd cc
 

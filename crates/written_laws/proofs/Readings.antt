@@ -8,7 +8,6 @@ use Rattle.esql_types.specs.declared.value.Kind.TheVariants as kind
 use Rattle.esql_types.specs.declared.value.Value.{Value}
 use Rattle.esql_types.specs.declared.value.Value.TheVariants as value
 use Rattle.esql_types.specs.declared.names.NodeId.{NodeId}
-use Rattle.esql_ast.specs.declared.expr.BinaryOp.{BinaryOp}
 use Rattle.esql_ast.specs.declared.expr.Expr.{Expr}
 use Rattle.esql_ast.specs.declared.expr.Form.{Form}
 use Rattle.esql_ast.specs.declared.expr.Form.TheBlock.{the_family, member-Form, member-Expr}
@@ -21,7 +20,7 @@ use Rattle.esql_plan.specs.declared.function.AggFunction.{AggFunction}
 use Rattle.esql_plan.specs.declared.names.FunctionRow.{FunctionRow}
 use Rattle.esql_plan.specs.Names.{function_named, aggregate_named, cast_named}
 use Rattle.row_semantics.specs.declared.rule.NameRule.TheVariants as rule
-use Rattle.row_semantics.specs.Forms.{Part, Seen, constant, named, same, applied, aggregate, refused, Reader, seen, call_by, call_of, takes, cast_by, list_in_kind, kind_of_list, function_of, like_function, literal_of, part_of_form, part_of, read_by, pattern_part}
+use Rattle.row_semantics.specs.Forms.{Part, Seen, constant, named, same, applied, aggregate, refused, Reader, seen, call_by, takes, cast_by, list_in_kind, kind_of_list, constant_in, function_of, like_function, literal_of, part_of_form, part_of, read_by}
 
 -- a part with another reading
 abbrev pub part_with : {A B : Type 0} → (A → B) → Part A → Part B
@@ -48,6 +47,10 @@ list_with : {A B : Type 0} (make : A → B) (values : List Value) (found : Optio
 list_with make values (Some kind.Long) span = refl
 list_with make values (Some other) span = refl
 list_with make values None span = refl
+
+constant_with : {A B : Type 0} (make : A → B) (cell : List Value) (span : Span) → constant_in cell span ≡ seen_with make (constant_in cell span)
+constant_with make [] span = refl
+constant_with make (value ∷ values) span = list_with make (value ∷ values) (kind_of_list (value ∷ values)) span
 
 arguments_with : {A B : Type 0} (make : A → B) (row : FunctionRow) (parts : List (Part A)) (span : Span) (taken : Bool)
     → cond taken (applied row.function (parts_with make parts)) (refused [] rule.BadArguments span) ≡ seen_with make (cond taken (applied row.function parts) (refused [] rule.BadArguments span))
@@ -116,7 +119,7 @@ module _ (A B : Type 0) (first : Reader A) (second : Reader B) (make : A → B) 
       ∙ sym (ap (λ f. part_with make (f node span)) right)
 
   form_made : (layer : Form-F GoodForm GoodExpr) → FormMade (roll-Form (layer_of layer))
-  form_made (Constant cell kind) = carried (layer_of (Constant cell kind)) refl (λ node span. refl)
+  form_made (Constant cell kind) = carried (layer_of (Constant cell kind)) refl (λ node span. constant_with make cell span)
   form_made (Listed values) = carried (layer_of (Listed values)) refl (λ node span. list_with make values (kind_of_list values) span)
   form_made (Column name) = carried (layer_of (Column name)) refl (λ node span. refl)
   form_made (Group inner) = carried (layer_of (Group inner)) refl (λ node span. ap same inner.1)
@@ -148,11 +151,11 @@ module _ (A B : Type 0) (first : Reader A) (second : Reader B) (make : A → B) 
       ind-Expr FormMade ExprMade (λ layer goods is. let P : Form-F Form Expr → Type 0 = λ these. FormMade (roll-Form these) in subst P is (form_made goods))
       (λ own good is. let P : Expr-F Form Expr → Type 0 = λ this. ExprMade (roll-Expr this) in subst P is (own_made (map-Expr GoodForm GoodExpr Form Expr the_form the_expr good) good.form.1))
     where
-    own_made : (own : Expr-F Form Expr) → FormMade own.form → ExprMade (roll-Expr own)
-    own_made own form =
-        let left = fold-roll-Expr (NodeId → Span → Part B) (Part B) (part_of_form second) (λ e. e.form e.node e.span) own in
-        let right = fold-roll-Expr (NodeId → Span → Part A) (Part A) (part_of_form first) (λ e. e.form e.node e.span) own in
-        left ∙ form own.node own.span ∙ sym (ap (part_with make) right)
+      own_made : (own : Expr-F Form Expr) → FormMade own.form → ExprMade (roll-Expr own)
+      own_made own form =
+          let left = fold-roll-Expr (NodeId → Span → Part B) (Part B) (part_of_form second) (λ e. e.form e.node e.span) own in
+          let right = fold-roll-Expr (NodeId → Span → Part A) (Part A) (part_of_form first) (λ e. e.form e.node e.span) own in
+          left ∙ form own.node own.span ∙ sym (ap (part_with make) right)
 
   -- the reading of an expression is made of the other one
   pub read_made : (expr : Expr) → read_by second expr ≡ make (read_by first expr)

@@ -1,25 +1,22 @@
 -- The typed form of an expression has on a row of numbers the value that the expression has on the row of names.
-use Rattle.std.proofs.Common.{◌≡◌, ℕ, ◌+◌, Bool, true, false, cond, ◌==◌, List, [], ◌∷◌, map, length, Option, Some, None, refl, ap, sym, ◌∙◌}
-use Rattle.std.specs.Prelude.{if◌then◌else◌}
+use Rattle.std.proofs.Common.{◌≡◌, ℕ, ◌+◌, true, false, cond, ◌==◌, List, [], ◌∷◌, map, length, Some, refl, ap, sym, ◌∙◌}
 use Rattle.std.specs.Str.{bytes_eq}
 use Rattle.esql_types.specs.declared.places.Span.{Span}
-use Rattle.esql_types.specs.declared.value.Kind.TheVariants as kind
 use Rattle.esql_types.specs.declared.names.NodeId.{NodeId}
 use Rattle.esql_ast.specs.declared.expr.Expr.{Expr}
 use Rattle.esql_plan.specs.declared.function.Function.{Function}
 use Rattle.esql_plan.specs.declared.function.Function.TheVariants as function
 use Rattle.esql_plan.specs.declared.plan.OutColumn.{OutColumn}
 use Rattle.esql_plan.specs.declared.typed.TypedExpr.{TypedExpr}
-use Rattle.esql_plan.specs.declared.typed.TypedForm.TheVariants as form
 use Rattle.esql_plan.specs.Values.{Valued, NumberedRow, silent, applied as value_of_applied, value_of_typed}
 use Rattle.esql_plan.proofs.TypedFolds.{value_of_constant, value_of_column, value_of_call}
 use Rattle.row_semantics.specs.Forms.{Part, Seen, constant, named, same, applied, aggregate, refused, Reader, read_by, function_in_plan, arguments_in_plan}
 use Rattle.row_semantics.specs.Rows.{cell_at}
-use Rattle.row_semantics.specs.Typed.{Visible, CallColumn, Typing, visible_named, call_at, typed_null, typed_column, typed_call, typed_parts, typing, typing_of, typed_of}
+use Rattle.row_semantics.specs.Typed.{Visible, CallColumn, Typing, visible_named, call_at, typed_null, typed_column, typed_call, typed_parts, typing, typed_of}
 use Rattle.row_semantics.specs.Meanings.{Given, cell_of_call, valued, value_on}
 use Rattle.query_semantics.specs.Commands.{value_in_row}
 use Rattle.written_laws.specs.Named.{named_row, call_cell, given_of}
-use Rattle.written_laws.proofs.Readings.{part_with, parts_with, seen_with, IsMade, read_made}
+use Rattle.written_laws.proofs.Readings.{part_with, parts_with, seen_with, read_made}
 
 -- the typed form of an expression and its value by names, which are the same
 record Both : Type 0 where
