@@ -18,4 +18,4 @@ pub use messages::{
     unknown_table, usage,
 };
 pub use printing::{push_printed, width};
-pub use warning::warnings;
+pub use warning::{push_warnings, warnings};

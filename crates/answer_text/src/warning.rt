@@ -47,7 +47,9 @@ fn first_causes<'a>(
     Ok(causes)
 }
 
-fn push_warnings(
+/// Writes what is warned of a node whose first failures have these causes: a head and a line for each distinct cause, and
+/// nothing where there is none.
+pub fn push_warnings(
     out: &mut String,
     text: &str,
     at: NodeAt,

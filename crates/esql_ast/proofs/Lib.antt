@@ -9,5 +9,14 @@ pub mod KeepsFit
 pub mod NumberedQuery
 pub mod PartsFit
 pub mod NodesFit
+pub mod WarnedFit
 pub mod DepthParts
 pub mod KeepsDepth
+pub mod NameTails
+pub mod NameRuns
+pub mod NameStood
+pub mod NamePlaces
+pub mod NameLasts
+pub mod Winners
+pub mod KeptOnce
+pub mod RenamedDiffer

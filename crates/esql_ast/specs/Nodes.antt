@@ -1,6 +1,7 @@
 -- The nodes of a query in written order: the outer before the inner, from the left.
 use Rattle.std.specs.Prelude.{List, [], ◌∷◌, ◌++◌, Option, Some, None}
 use Rattle.std.specs.List.{flat_map}
+use Rattle.esql_types.specs.declared.places.Span.{Span}
 use Rattle.esql_ast.specs.declared.nodes.NodeAt.{NodeAt}
 use Rattle.esql_ast.specs.declared.expr.Expr.{Expr}
 use Rattle.esql_ast.specs.declared.expr.Form.TheOpen.{Expr-F, Form-F, Constant, List as Listed, Column, Group, Call, Minus, Not, Binary, Within, Like, IsNull, Cast}
@@ -83,3 +84,27 @@ nodes_of_source (OneRow node span fields) = record { node = node; span = span } 
 -- the nodes of the source command, then those of each command in turn
 abbrev pub nodes_of : Query → List NodeAt
 nodes_of query = nodes_of_source query.source ++ flat_map nodes_of_command query.commands
+
+-- where the failures of a command's own node are said to be: at the condition of WHERE, at the input of DISSECT and GROK, and at
+-- every other command itself
+abbrev pub warned_at : Span → CommandKind → Span
+warned_at span (Filter condition) = condition.span
+warned_at span (Eval fields) = span
+warned_at span (Keep patterns) = span
+warned_at span (Drop patterns) = span
+warned_at span (Rename pairs) = span
+warned_at span (Sort keys) = span
+warned_at span (Limit count) = span
+warned_at span (Expand column) = span
+warned_at span (Stats fields groups) = span
+warned_at span (Dissect input pattern separator) = input.span
+warned_at span (Grok input pattern) = input.span
+warned_at span (Enrich policy on fields) = span
+warned_at span (Join table on) = span
+
+abbrev pub warned_nodes_of_command : Command → List NodeAt
+warned_nodes_of_command command = record { node = command.node; span = warned_at command.span command.kind } ∷ nodes_of_kind command.kind
+
+-- the nodes of a query in written order, each where its failures are said to be
+abbrev pub warned_nodes_of : Query → List NodeAt
+warned_nodes_of query = nodes_of_source query.source ++ flat_map warned_nodes_of_command query.commands

@@ -1,6 +1,6 @@
 ghost use Rattle.std.specs.Prelude.{◌≡◌, [], ◌∷◌, ◌++◌, IfOk, OnOk};
 ghost use Rattle.std.specs.List.{flat_map};
-ghost use Rattle.esql_ast.specs.Nodes.{nodes_of, nodes_of_expr, nodes_of_form, nodes_of_field, nodes_of_stats, nodes_of_key, nodes_of_condition, nodes_of_kind, nodes_of_command, nodes_of_source};
+ghost use Rattle.esql_ast.specs.Nodes.{nodes_of_expr, nodes_of_form, nodes_of_field, nodes_of_stats, nodes_of_key, nodes_of_condition, nodes_of_kind, nodes_of_source, warned_at, warned_nodes_of_command, warned_nodes_of};
 
 use crate::{
     Command, CommandKind, Condition, Expr, Field, Form, Query, SortKey, SourceCommand, StatsField,
@@ -8,16 +8,17 @@ use crate::{
 use esql_types::{NodeId, Seq, Span};
 use std::alloc::{AllocError, Global};
 
-/// A node of a query, and where it stands.
+/// A node of a query, and a place of it.
 #[derive(Clone, Copy, Debug)]
 pub struct NodeAt {
     pub node: NodeId,
     pub span: Span,
 }
 
-/// The nodes of a query in written order: the outer before the inner, from the left.
-pub fn nodes_of(alloc: Global, query: &Query) -> Result<Seq<NodeAt>, AllocError>
-    ensures { IfOk result (λ nodes. nodes ≡ nodes_of query.now) }
+/// The nodes of a query in written order, the outer before the inner, from the left, each where its failures are said to be: at
+/// its own place, but those of WHERE at the condition, and those of DISSECT and GROK at the input.
+pub fn warned_nodes_of(alloc: Global, query: &Query) -> Result<Seq<NodeAt>, AllocError>
+    ensures { IfOk result (λ nodes. nodes ≡ warned_nodes_of query.now) }
 {
     let mut nodes = Seq::new(alloc);
     push_source(&mut nodes, &query.source)?;
@@ -46,10 +47,30 @@ fn push_node(nodes: &mut Seq<NodeAt>, node: NodeId, span: Span) -> Result<(), Al
 }
 
 fn push_command(nodes: &mut Seq<NodeAt>, command: &Command) -> Result<(), AllocError>
-    ensures { OnOk result (nodes.new ≡ nodes.old ++ nodes_of_command command.now) }
+    ensures { OnOk result (nodes.new ≡ nodes.old ++ warned_nodes_of_command command.now) }
 {
-    push_node(nodes, command.node, command.span)?;
+    push_node(nodes, command.node, warned_at(command.span, &command.kind))?;
     push_kind(nodes, &command.kind)
+}
+
+/// Where the failures of a command's own node are said to be.
+fn warned_at(span: Span, kind: &CommandKind) -> Span
+    ensures { result ≡ warned_at span kind.now }
+{
+    match kind {
+        CommandKind::Filter { condition } => condition.span,
+        CommandKind::Dissect { input, .. } | CommandKind::Grok { input, .. } => input.span,
+        CommandKind::Eval { .. }
+        | CommandKind::Keep { .. }
+        | CommandKind::Drop { .. }
+        | CommandKind::Rename { .. }
+        | CommandKind::Sort { .. }
+        | CommandKind::Limit { .. }
+        | CommandKind::Expand { .. }
+        | CommandKind::Stats { .. }
+        | CommandKind::Enrich { .. }
+        | CommandKind::Join { .. } => span,
+    }
 }
 
 fn push_kind(nodes: &mut Seq<NodeAt>, kind: &CommandKind) -> Result<(), AllocError>

@@ -3,14 +3,14 @@ ghost use Rattle.esql_ast.specs.Numbering.{numbering_of_command, size_of, size_o
 
 use crate::{
     BinaryOp, Command, CommandKind, Condition, Expr, Field, Form, SourceCommand, StatsField,
-    nodes_of, numbered_query,
+    numbered_query, warned_nodes_of,
 };
 use esql_types::{Boxed, Cell, Kind, NodeId, Seq, Span};
 use std::alloc::{AllocError, Global};
 use std::test::Fail;
 
-// Where the nodes of the query stand, in written order.
-const PLACES: [u32; 14] = [0, 10, 11, 12, 20, 21, 22, 23, 24, 25, 30, 31, 32, 32];
+// Where the failures of the nodes of the query are said to be, in written order.
+const PLACES: [u32; 14] = [0, 10, 11, 12, 21, 21, 22, 23, 24, 25, 30, 31, 32, 32];
 
 fn span(at: u32) -> Span {
     Span { from: at, to: at }
@@ -142,7 +142,7 @@ fn nodes_are_numbered_in_written_order(rt: HostRuntime) -> Result<(), Fail> {
     commands.push(filter(rt.alloc())?)?;
     commands.push(stats(rt.alloc())?)?;
     let query = numbered_query(rt.alloc(), source, commands)?;
-    let nodes = nodes_of(rt.alloc(), &query)?;
+    let nodes = warned_nodes_of(rt.alloc(), &query)?;
     assert!(rt; query.nodes == 14 && nodes.len() == PLACES.len());
     for (number, place) in nodes.as_slice().iter().enumerate() {
         assert!(rt;

@@ -1,5 +1,5 @@
 -- What is known of a query that is parsed, and of a refusal.
-use Rattle.std.proofs.Common.{◌≡◌, ◌⊎◌, inl, inr, ℕ, ◌≤◌, ◌<◌, List, length, map, Result, Ok, Err, IfOk, IfErr, MatchResult, sym, subst, ⊎_elim}
+use Rattle.std.proofs.Common.{◌≡◌, ◌⊎◌, inl, inr, ℕ, ◌≤◌, ◌<◌, List, length, map, Result, Ok, Err, IfOk, IfErr, MatchResult, ap, sym, subst, ⊎_elim, arith}
 use Rattle.std.proofs.lemmas.List.{length-map}
 use Rattle.esql_lex.specs.declared.token.Token.{Token}
 use Rattle.esql_lex.specs.Tokens.{FitsText}
@@ -17,6 +17,7 @@ use Rattle.esql_parse.specs.Spells.{Spells, Refuses, lexemes_of, IsWantOfMemory,
 use Rattle.esql_parse.proofs.Accepts.{one_query}
 use Rattle.esql_parse.proofs.Refusals.{one_refusal, spelled_not_refused}
 use Rattle.esql_parse.proofs.Fits.{spelled_fits}
+use Rattle.esql_parse.proofs.Sizes.{query_size}
 
 -- what is answered is right
 abbrev pub IsExact : List ℕ → List Token → Result Query ParseError → Type 0
@@ -42,6 +43,18 @@ pub numbers : (text : List ℕ) (tokens : List Token) (result : Result Query Par
     → IsExact text tokens result → IfOk result IsNumbered
 numbers text tokens (Ok query) in_order is = subst IsNumbered (sym is.numbered) (in_order is.written.source is.written.commands)
 numbers text tokens (Err error) in_order is = tt
+
+-- each node takes a token at least
+spelled_few : (text : List ℕ) (tokens : List Token) (query : Query) → Spells text tokens query → query.nodes ≤ length tokens
+spelled_few text tokens query spelled =
+    let size = query_size spelled.spells in
+    let count : length (lexemes_of text tokens) ≡ length tokens = length-map tokens (lexeme_of text) in
+    let is = ap (λ (this : Query). this.nodes) spelled.numbered in
+    omega (arith, size, count, is)
+
+pub few : (text : List ℕ) (tokens : List Token) (result : Result Query ParseError) → IsExact text tokens result → IfOk result (λ query. query.nodes ≤ length tokens)
+few text tokens (Ok query) is = spelled_few text tokens query is
+few text tokens (Err error) is = tt
 
 within : (text : List ℕ) (tokens : List Token) (number : ℕ) → Breaks 100 200 (lexemes_of text tokens) number → number < length tokens
 within text tokens number breaks = subst (λ (n : ℕ). number < n) (length-map tokens (lexeme_of text)) breaks.at

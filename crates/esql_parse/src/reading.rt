@@ -88,6 +88,7 @@ pub fn parse(alloc: Global, text: &str, tokens: &Seq<Token>) -> Result<Query, Pa
     ensures refusal { (error : ParseError) → Refuses text.now tokens.now error → IsRefusalOrMemory result error }
     ensures fit { IfOk result (QueryFits text.now) }
     ensures numbered { IfOk result IsNumbered }
+    ensures few { IfOk result (λ query. query.nodes ≤ length tokens.now) }
     ensures within { IfOk result IsWithinLimits }
     ensures place { IfErr result (NamesToken tokens.now) }
 {

@@ -5,8 +5,8 @@ use Rattle.std.proofs.lemmas.List.Elements.{All-map}
 use Rattle.esql_types.specs.declared.value.Value.{Value}
 use Rattle.esql_types.specs.declared.names.Column.{Column}
 use Rattle.row_semantics.specs.declared.row.NamedCell.{NamedCell}
-use Rattle.query_semantics.specs.declared.table.Table.{Table}
-use Rattle.query_semantics.specs.Tables.{IsShaped, cells_of}
+use Rattle.row_queries.specs.declared.table.Table.{Table}
+use Rattle.row_queries.specs.Tables.{IsShaped, cells_of}
 
 pub cells_fit : (table : Table) → IsShaped table → All (λ (cells : List (List Value)). length cells ≡ length table.columns) (map cells_of table.rows)
 cells_fit table shaped =

@@ -9,11 +9,11 @@ use Rattle.esql_lex.specs.Tokens.{Tokens}
 use Rattle.esql_ast.specs.declared.query.Query.{Query}
 use Rattle.esql_ast.specs.Nodes.{nodes_of}
 use Rattle.esql_parse.specs.Spells.{Spells}
-use Rattle.query_semantics.specs.declared.table.Ran.{Ran}
-use Rattle.query_semantics.specs.Tables.{cells_of}
-use Rattle.query_semantics.specs.Commands.{meaning_of}
-use Rattle.query_semantics.specs.Shapes.{shape_of}
-use Rattle.query_semantics.specs.Unbuilt.{unbuilt_of}
+use Rattle.row_queries.specs.declared.table.Ran.{Ran}
+use Rattle.row_queries.specs.Tables.{cells_of}
+use Rattle.row_queries.specs.Commands.{meaning_of}
+use Rattle.row_queries.specs.Shapes.{shape_of}
+use Rattle.row_queries.specs.Unbuilt.{unbuilt_of}
 use Rattle.answer_text.specs.Txt.{shown_txt}
 use Rattle.answer_text.specs.Warnings.{warned}
 use Rattle.answer_text.specs.Messages.{unknown_column, not_built, usage}

@@ -1,9 +1,9 @@
 ghost use Rattle.std.specs.Prelude.{◌≡◌, [], map, IfOk};
 ghost use Rattle.std.specs.String.{string_bytes};
 ghost use Rattle.esql_ast.specs.Fits.{QueryFits};
-ghost use Rattle.query_semantics.specs.Tables.{IsShaped};
-ghost use Rattle.query_semantics.specs.Shapes.{shape_of};
-ghost use Rattle.query_semantics.specs.Unbuilt.{unbuilt_of};
+ghost use Rattle.row_queries.specs.Tables.{IsShaped};
+ghost use Rattle.row_queries.specs.Shapes.{shape_of};
+ghost use Rattle.row_queries.specs.Unbuilt.{unbuilt_of};
 ghost use Rattle.esql_run.specs.Answers.{IsTold};
 ghost use Rattle.esql_run.specs.Outcome.{IsOutcome, IsAnswer, AnswersQuery, AsksForQuery, IsFileFor, AsksFile, outcome_of, outcome_built, done, wrong_words};
 ghost use Rattle.esql_run.specs.Made.{outcome_made};
@@ -15,10 +15,10 @@ use crate::query::{Unread, read_query};
 use crate::rendered::{Rendered, Unanswered, refuse};
 use crate::rows::cells_of_rows;
 use answer_text::{not_built, unknown_column, usage, warnings};
-use esql_ast::{Query, SourceCommand, nodes_of};
+use esql_ast::{Query, SourceCommand, warned_nodes_of};
 use esql_io::Files;
 use esql_types::{Text, text_at};
-use query_semantics::{AnswerError, Ran, Table, first_unbuilt, meaning_of};
+use row_queries::{AnswerError, Ran, Table, first_unbuilt, meaning_of};
 use std::alloc::{AllocError, Global};
 use table_out::txt;
 
@@ -116,7 +116,7 @@ fn show(alloc: Global, text: &str, query: &Query, ran: Ran) -> Result<Rendered, 
         table: Table { columns, rows },
         failures,
     } = ran;
-    let nodes = nodes_of(alloc, query)?;
+    let nodes = warned_nodes_of(alloc, query)?;
     let rows = cells_of_rows(alloc, rows)?;
     Ok(Rendered {
         status: Status::Done,

@@ -1,5 +1,5 @@
 ghost use Rattle.std.specs.Prelude.{◌≡◌, map, IfOk};
-ghost use Rattle.query_semantics.specs.Tables.{cells_of};
+ghost use Rattle.row_queries.specs.Tables.{cells_of};
 
 use esql_types::{Cell, Seq};
 use row_semantics::NamedCell;

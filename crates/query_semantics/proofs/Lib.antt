@@ -1,4 +1,2 @@
-mod FirstUnbuilt
-mod Firsts
-mod Places
-mod Shaped
+pub mod ExprPlaces
+pub mod ShapePlaces

@@ -1,91 +1,119 @@
--- What the commands of a query do to a table, and what the query means.
-use Rattle.std.specs.Prelude.{ℕ, List, [], ◌∷◌, ◌++◌, map, fold, take, Option, Some, None}
+-- What the commands of a query do to rows of names, and what fails on the way.
+use Rattle.std.specs.Prelude.{ℕ, Bool, List, [], ◌∷◌, ◌++◌, filter, map, take}
 use Rattle.std.specs.List.{flat_map}
-use Rattle.esql_types.specs.Spans.{text_at}
+use Rattle.esql_types.specs.declared.value.Value.{Value}
 use Rattle.esql_types.specs.declared.cause.Failure.{Failure}
+use Rattle.esql_types.specs.declared.names.NodeId.{NodeId}
 use Rattle.esql_ast.specs.declared.expr.Expr.{Expr}
-use Rattle.esql_ast.specs.declared.expr.Form.TheOpen.{Form-F, Column as Named}
-use Rattle.esql_ast.specs.declared.expr.Form.TheFolds.{fold-Expr}
 use Rattle.esql_ast.specs.declared.query.Field.{Field}
-use Rattle.esql_ast.specs.declared.query.NameAt.{NameAt}
-use Rattle.esql_ast.specs.declared.query.Query.{Query}
+use Rattle.esql_ast.specs.declared.query.NamePattern.{NamePattern}
+use Rattle.esql_ast.specs.declared.query.RenamePair.{RenamePair}
 use Rattle.esql_ast.specs.declared.query.Command.{Command}
 use Rattle.esql_ast.specs.declared.query.CommandKind.{CommandKind}
-use Rattle.esql_ast.specs.declared.query.CommandKind.TheVariants.{Eval}
-use Rattle.esql_ast.specs.declared.query.SourceCommand.{SourceCommand}
-use Rattle.esql_ast.specs.declared.query.SourceCommand.TheVariants.{Tables, OneRow}
+use Rattle.esql_ast.specs.declared.query.CommandKind.TheVariants.{Filter, Eval, Keep, Drop, Rename, Sort, Limit, Expand, Stats, Dissect, Grok, Enrich, Join}
+use Rattle.esql_ast.specs.NameRules.{keep_places, drop_places, at_places, renamings, renamed_by}
+use Rattle.esql_plan.specs.Values.{Valued}
+use Rattle.plan_semantics.specs.Steps.{is_true, failures_of_condition}
+use Rattle.row_semantics.specs.declared.row.NamedCell.{NamedCell}
 use Rattle.row_semantics.specs.Rows.{Row, put}
-use Rattle.row_semantics.specs.Values.{value_of}
-use Rattle.query_semantics.specs.Kinds.{kind_of}
-use Rattle.query_semantics.specs.declared.table.Table.{Table}
-use Rattle.query_semantics.specs.declared.table.Ran.{Ran}
-use Rattle.query_semantics.specs.Tables.{put_column}
+use Rattle.row_semantics.specs.Fields.{name_of_field}
+use Rattle.row_semantics.specs.Meanings.{value_on}
 
--- the name of a form, where it is one column without parentheses
-abbrev pub column_of_form : Form-F (Option (List ℕ)) (Option (List ℕ)) → Option (List ℕ)
-column_of_form (Named name) = Some name
-column_of_form form = None
+-- the value of an expression on a row, outside STATS
+abbrev pub value_in_row : Expr → Row → Valued
+value_in_row expr row = value_on expr (record { row = row; calls = [] })
 
--- the name of an expression, where it is one column without parentheses
-abbrev pub column_of : Expr → Option (List ℕ)
-column_of = fold-Expr (Option (List ℕ)) (Option (List ℕ)) column_of_form (λ e. e.form)
+-- the names of a row's cells
+abbrev pub names_in : Row → List (List ℕ)
+names_in row = map (λ (named : NamedCell). named.name) row
 
--- a field without a name is named by the column that it is, else by the slice of the query
-abbrev pub own_name : List ℕ → Field → Option (List ℕ) → List ℕ
-own_name text field (Some name) = name
-own_name text field None = text_at text field.span
+abbrev pub cells_of : Row → List (List Value)
+cells_of row = map (λ (named : NamedCell). named.cell) row
 
-abbrev pub name_by : List ℕ → Field → Option NameAt → List ℕ
-name_by text field (Some name) = name.name
-name_by text field None = own_name text field (column_of field.expr)
+-- EVAL and ROW ---------------------------------------------------------------------------------------------------------
 
--- the name of a field's column
-abbrev pub name_of_field : List ℕ → Field → List ℕ
-name_of_field text field = name_by text field field.name
-
--- a field on a row: its value takes the place of the cell of its name, and stands at the end
+-- a field's value takes the place of the cell of its name, and stands at the end
 abbrev pub row_with_field : List ℕ → Field → Row → Row
-row_with_field text field row = put row (name_of_field text field) (value_of field.expr row).cell
+row_with_field text field row = put row (name_of_field text field) (value_in_row field.expr row).cell
 
--- a field on a table: its column takes the place of that of its name, and stands at the end, on each row
-abbrev pub table_with_field : List ℕ → Field → Table → Table
-table_with_field text field table = record {
-  columns = put_column table.columns (name_of_field text field) (kind_of field.expr table.columns);
-  rows = map (row_with_field text field) table.rows;
-}
+-- each field in turn; later fields see earlier ones
+abbrev pub rows_of_fields : List ℕ → List Field → List Row → List Row
+rows_of_fields text [] rows = rows
+rows_of_fields text (field ∷ fields) rows = rows_of_fields text fields (map (row_with_field text field) rows)
 
--- the failures of a field, row after row
-abbrev pub failures_of_field : Field → Table → List Failure
-failures_of_field field table = flat_map (λ row. (value_of field.expr row).failures) table.rows
+abbrev pub failures_of_expr : Expr → List Row → List Failure
+failures_of_expr expr rows = flat_map (λ row. (value_in_row expr row).failures) rows
 
-abbrev pub run_field : List ℕ → Ran → Field → Ran
-run_field text ran field = record {
-  table = table_with_field text field ran.table;
-  failures = ran.failures ++ failures_of_field field ran.table;
-}
+-- the failures of each field in turn, row after row
+abbrev pub failures_of_fields : List ℕ → List Field → List Row → List Failure
+failures_of_fields text [] rows = []
+failures_of_fields text (field ∷ fields) rows = failures_of_expr field.expr rows ++ failures_of_fields text fields (map (row_with_field text field) rows)
 
--- EVAL: each field in turn, a later one over the columns of those before it
-abbrev pub run_fields : List ℕ → List Field → Ran → Ran
-run_fields text fields ran = fold (run_field text) ran fields
+-- WHERE ----------------------------------------------------------------------------------------------------------------
 
--- what a command does; no query with another command is answered
-abbrev pub run_kind : List ℕ → CommandKind → Ran → Ran
-run_kind text (Eval fields) ran = run_fields text fields ran
-run_kind text kind ran = ran
+-- the rows on which the condition is true
+abbrev pub rows_of_condition : Expr → List Row → List Row
+rows_of_condition condition rows = filter (λ row. is_true (value_in_row condition row).cell) rows
 
-abbrev pub run_command : List ℕ → Ran → Command → Ran
-run_command text ran command = run_kind text command.kind ran
+-- a condition of several values is a failure of the command's node
+abbrev pub failures_of_rows : NodeId → Expr → List Row → List Failure
+failures_of_rows node condition rows = flat_map (λ row. failures_of_condition node (value_in_row condition row)) rows
 
--- ROW: one row without columns, on which its fields are evaluated as by EVAL; no query with FROM is answered
-abbrev pub run_source : List ℕ → SourceCommand → Ran
-run_source text (OneRow node span fields) =
-    run_fields text fields (record { table = record { columns = []; rows = [] ∷ [] }; failures = [] })
-run_source text (Tables node span tables) = record { table = record { columns = []; rows = [] }; failures = [] }
+-- KEEP, DROP, RENAME ------------------------------------------------------------------------------------------------------
 
--- the last cut of a query without a LIMIT: the first 1,000 rows; it drops no failure
-abbrev pub last_cut : Ran → Ran
-last_cut ran = record ran { table = record { columns = ran.table.columns; rows = take 1000 ran.table.rows } }
+abbrev pub kept_of_row : List NamePattern → Row → Row
+kept_of_row patterns row = at_places (keep_places (names_in row) patterns) row
 
--- what a query means: its source's table, put through its commands in written order, then the last cut
-abbrev pub meaning_of : List ℕ → Query → Ran
-meaning_of text query = last_cut (fold (run_command text) (run_source text query.source) query.commands)
+abbrev pub left_of_row : List NamePattern → Row → Row
+left_of_row patterns row = at_places (drop_places (names_in row) patterns) row
+
+abbrev pub cell_as : List ℕ → NamedCell → NamedCell
+cell_as name named = record { name = name; cell = named.cell }
+
+abbrev pub renamed_row : List RenamePair → Row → Row
+renamed_row pairs row = renamed_by cell_as (renamings (names_in row) pairs) row
+
+-- commands ---------------------------------------------------------------------------------------------------------------
+
+-- The rows after a command. No query with a command that is not built so far is answered: those leave the rows as they are.
+abbrev pub rows_of_kind : List ℕ → CommandKind → List Row → List Row
+rows_of_kind text (Filter condition) rows = rows_of_condition condition rows
+rows_of_kind text (Eval fields) rows = rows_of_fields text fields rows
+rows_of_kind text (Keep patterns) rows = map (kept_of_row patterns) rows
+rows_of_kind text (Drop patterns) rows = map (left_of_row patterns) rows
+rows_of_kind text (Rename pairs) rows = map (renamed_row pairs) rows
+rows_of_kind text (Sort keys) rows = rows
+rows_of_kind text (Limit count) rows = take count rows
+rows_of_kind text (Expand column) rows = rows
+rows_of_kind text (Stats fields groups) rows = rows
+rows_of_kind text (Dissect input pattern separator) rows = rows
+rows_of_kind text (Grok input pattern) rows = rows
+rows_of_kind text (Enrich policy on fields) rows = rows
+rows_of_kind text (Join table on) rows = rows
+
+-- What fails in a command: KEEP, DROP, RENAME and LIMIT never do. No query with a command that is not built so far is answered.
+abbrev pub failures_of_kind : List ℕ → NodeId → CommandKind → List Row → List Failure
+failures_of_kind text node (Filter condition) rows = failures_of_rows node condition rows
+failures_of_kind text node (Eval fields) rows = failures_of_fields text fields rows
+failures_of_kind text node (Keep patterns) rows = []
+failures_of_kind text node (Drop patterns) rows = []
+failures_of_kind text node (Rename pairs) rows = []
+failures_of_kind text node (Sort keys) rows = []
+failures_of_kind text node (Limit count) rows = []
+failures_of_kind text node (Expand column) rows = []
+failures_of_kind text node (Stats fields groups) rows = []
+failures_of_kind text node (Dissect input pattern separator) rows = []
+failures_of_kind text node (Grok input pattern) rows = []
+failures_of_kind text node (Enrich policy on fields) rows = []
+failures_of_kind text node (Join table on) rows = []
+
+-- the rows after commands in turn
+abbrev pub rows_of_commands : List ℕ → List Command → List Row → List Row
+rows_of_commands text [] rows = rows
+rows_of_commands text (command ∷ commands) rows = rows_of_commands text commands (rows_of_kind text command.kind rows)
+
+-- the failures of commands in turn, each on the rows that come to it
+abbrev pub failures_of_commands : List ℕ → List Command → List Row → List Failure
+failures_of_commands text [] rows = []
+failures_of_commands text (command ∷ commands) rows =
+    failures_of_kind text command.node command.kind rows ++ failures_of_commands text commands (rows_of_kind text command.kind rows)

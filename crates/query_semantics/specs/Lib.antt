@@ -1,6 +1,6 @@
-pub mod Commands
-pub mod Kinds
-pub mod Refusals
 pub mod Shapes
-pub mod Tables
-pub mod Unbuilt
+pub mod Written
+pub mod Cuts
+pub mod Commands
+pub mod Meaning
+pub mod Places

@@ -1,12 +1,9 @@
-//! What a query means, command by command on tables of rows with names, with the plain program that computes it.
+//! What a query means: the columns after each command, or the first rule that is broken; the rows of names and what fails on
+//! the way; and the plan that it is written as.
+//!
+//! Read its specs in this order: `Shapes`, `Commands`, `Cuts`, `Meaning`, `Written`.
 #![tactic(auto)]
 
-mod answer;
-mod columns;
-mod field;
-mod table;
-mod unbuilt;
+mod laws;
 
-pub use answer::meaning_of;
-pub use table::{AnswerError, Ran, Table};
-pub use unbuilt::first_unbuilt;
+pub use laws::{broken_rules_have_places, broken_rules_of_expressions_have_places};

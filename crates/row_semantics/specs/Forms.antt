@@ -105,6 +105,11 @@ list_in_kind values (Some kind.Keyword) span = constant values kind.Keyword
 list_in_kind values (Some kind.Null) span = constant values kind.Null
 list_in_kind values None span = refused [] rule.BadKind span
 
+-- A constant has the kind of its values, which go together as those of a list do; NULL has none.
+abbrev pub constant_in : {Reading : Type 0} → List Value → Span → Seen Reading
+constant_in [] span = constant [] kind.Null
+constant_in (value ∷ values) span = list_in_kind (value ∷ values) (kind_of_list (value ∷ values)) span
+
 -- a call may have so many arguments
 abbrev pub takes : FunctionRow → ℕ → Bool
 takes row count = nat_le row.least count && is_at_most row.most count
@@ -139,7 +144,7 @@ pattern_part reader node pattern = record {
 
 -- the form that an expression is seen as
 abbrev pub seen : {Written Reading : Type 0} → Reader Reading → NodeId → Span → Form-F Written (Part Reading) → Seen Reading
-seen reader node span (Constant cell kind) = constant cell kind
+seen reader node span (Constant cell kind) = constant_in cell span
 seen reader node span (Listed values) = list_in_kind values (kind_of_list values) span
 seen reader node span (Column name) = named name
 seen reader node span (Group inner) = same inner

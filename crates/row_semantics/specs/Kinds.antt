@@ -1,5 +1,5 @@
 -- The kind of an expression, or the first rule that it breaks, in the order in which its parts are written.
-use Rattle.std.specs.Prelude.{ℕ, ◌||◌, min, Bool, true, false, List, [], ◌∷◌, map, is_some, slice_index_or, Option, Some, None, Result, Ok, Err, if◌then◌else◌}
+use Rattle.std.specs.Prelude.{ℕ, ◌||◌, min, Bool, true, false, List, [], ◌∷◌, map, is_some, slice_index_or, Option, Some, None, option_map, Result, Ok, Err, if◌then◌else◌}
 use Rattle.esql_types.specs.declared.places.Span.{Span}
 use Rattle.esql_types.specs.declared.names.Column.{Column}
 use Rattle.esql_types.specs.declared.value.Kind.{Kind}
@@ -13,6 +13,7 @@ use Rattle.esql_plan.specs.Signatures.{misfit, kind_of_call, is_numeric, same_ki
 use Rattle.row_semantics.specs.declared.rule.NameRule.{NameRule}
 use Rattle.row_semantics.specs.declared.rule.NameRule.TheVariants as rule
 use Rattle.row_semantics.specs.Forms.{Part, constant, named, same, applied, aggregate, refused, Reader, read_by, is_word, function_in_plan, arguments_in_plan}
+use Rattle.row_semantics.specs.Regulars.{Regular}
 use Rattle.row_semantics.specs.Scopes.{Broken, Standing, elsewhere, in_field, in_aggregate, Scope, column_named, within_aggregate}
 
 -- a rule that is broken at a place
@@ -45,12 +46,16 @@ wrong_literal function.Replace (text ∷ pattern ∷ rest) = if is_some pattern.
 wrong_literal function.MvSort (values ∷ order ∷ rest) = if is_word "ASC" order.literal || is_word "DESC" order.literal then None else Some 1
 wrong_literal function parts = None
 
--- the place of the regular expression of RLIKE, NOT RLIKE and REPLACE; no other function has one
-abbrev pub regex_of : {Reading : Type 0} → Function → List (Part Reading) → Option Span
-regex_of function.Rlike (left ∷ pattern ∷ rest) = Some pattern.span
-regex_of function.NotRlike (left ∷ pattern ∷ rest) = Some pattern.span
-regex_of function.Replace (text ∷ pattern ∷ rest) = Some pattern.span
-regex_of function parts = None
+-- the regular expression that a literal is
+abbrev pub regular_in : {Reading : Type 0} → Bool → Part Reading → Option Regular
+regular_in is_whole pattern = option_map (λ text. record { span = pattern.span; text = text; is_whole = is_whole }) pattern.literal
+
+-- the regular expression of RLIKE, NOT RLIKE and REPLACE; no other function has one
+abbrev pub regular_of : {Reading : Type 0} → Function → List (Part Reading) → Option Regular
+regular_of function.Rlike (left ∷ pattern ∷ rest) = regular_in true pattern
+regular_of function.NotRlike (left ∷ pattern ∷ rest) = regular_in true pattern
+regular_of function.Replace (text ∷ pattern ∷ rest) = regular_in false pattern
+regular_of function parts = None
 
 -- the first of two places
 abbrev pub first_place : Option ℕ → Option ℕ → Option ℕ
@@ -59,9 +64,9 @@ first_place (Some place) None = Some place
 first_place (Some place) (Some other) = Some (min place other)
 
 -- a regular expression that is not accepted breaks a rule at its place
-abbrev pub accepted_regex : Option Span → Scope → Kind → Result Kind Broken
-accepted_regex None scope kind = Ok kind
-accepted_regex (Some pattern) scope kind = if scope.accepts pattern then Ok kind else breaks rule.BadRegex pattern
+abbrev pub if_accepted : Option Regular → Scope → Kind → Result Kind Broken
+if_accepted None scope kind = Ok kind
+if_accepted (Some regular) scope kind = if scope.accepts regular then Ok kind else breaks rule.BadRegex regular.span
 
 -- BadKind at the first argument that does not fit, if there is one
 abbrev pub fitting : Option ℕ → List Span → Span → Result Kind Broken → Result Kind Broken
@@ -72,7 +77,7 @@ fitting None spans own next = next
 abbrev pub kind_of_applied : Function → List (Part Judged) → List Kind → Span → Scope → Result Kind Broken
 kind_of_applied function parts kinds span scope =
     fitting (first_place (misfit (function_in_plan function parts) (arguments_in_plan function kinds)) (wrong_literal function parts)) (map (λ part. part.span) parts) span
-    (accepted_regex (regex_of function parts) scope (kind_of_call (function_in_plan function parts) (arguments_in_plan function kinds)))
+    (if_accepted (regular_of function parts) scope (kind_of_call (function_in_plan function parts) (arguments_in_plan function kinds)))
 
 -- SUM takes numbers, and every other aggregate values of any kind; null fits all of them
 abbrev pub aggregate_fits : AggFunction → Kind → Bool

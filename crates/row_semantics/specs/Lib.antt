@@ -1,8 +1,12 @@
 pub mod Built
+pub mod Columns
+pub mod Fields
 pub mod Forms
 pub mod Kinds
 pub mod Meanings
+pub mod Regulars
 pub mod Rows
 pub mod Scopes
+pub mod Sources
 pub mod Typed
 pub mod Values

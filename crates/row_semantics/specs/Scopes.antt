@@ -4,6 +4,7 @@ use Rattle.std.specs.Str.{bytes_eq}
 use Rattle.esql_types.specs.declared.places.Span.{Span}
 use Rattle.esql_types.specs.declared.names.Column.{Column}
 use Rattle.row_semantics.specs.declared.rule.NameRule.{NameRule}
+use Rattle.row_semantics.specs.Regulars.{Regular}
 
 -- a broken rule and its place
 pub record Broken : Type 0 where
@@ -16,12 +17,11 @@ pub data Standing : Type 0 where
   in_field : Standing
   in_aggregate : Standing
 
--- What an expression is judged by: the columns there, where it stands, and for each regular expression by its place whether it
--- is accepted.
+-- What an expression is judged by: the columns there, where it stands, and which regular expressions are accepted.
 pub record Scope : Type 0 where
   pub columns : List Column
   pub standing : Standing
-  pub accepts : Span → Bool
+  pub accepts : Regular → Bool
 
 -- the first column of a name
 abbrev pub column_named : List Column → List ℕ → Option Column

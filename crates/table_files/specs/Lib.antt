@@ -1,5 +1,6 @@
 pub mod Asked
 pub mod Catalog
+pub mod Catalogs
 pub mod Messages
 pub mod Reading
 pub mod Shapes

@@ -1,6 +1,7 @@
 //! Tables by their names: `gather` finds them by their mappings, `load` reads their rows.
 #![tactic(auto)]
 
+mod catalog;
 mod gathering;
 mod laws;
 mod loading;
@@ -9,6 +10,7 @@ mod stop;
 #[cfg(test)]
 mod tests;
 
+pub use catalog::catalog_of;
 pub use gathering::gather;
 pub use laws::{one_gathering, one_loading};
 pub use loading::load;

@@ -1,5 +1,5 @@
 use Rattle.std.proofs.Common.{◌≡◌, map}
-use Rattle.query_semantics.specs.Tables.{cells_of}
+use Rattle.row_queries.specs.Tables.{cells_of}
 use Rattle.esql_run.proofs.rows.cells_of_rows.Given as goal
 
 abbrev pub invariant-loop-row : goal.invariant-loop-row

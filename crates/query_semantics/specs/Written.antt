@@ -1,0 +1,156 @@
+-- The plan that a query is written as: names vanish, and a step stands for each field, condition and LIMIT.
+use Rattle.std.specs.Prelude.{ℕ, ◌+◌, not, List, [], ◌∷◌, ◌++◌, filter, map, fold, length}
+use Rattle.std.specs.Str.{bytes_eq}
+use Rattle.esql_types.specs.declared.names.NodeId.{NodeId}
+use Rattle.esql_types.specs.declared.names.ColId.{ColId}
+use Rattle.esql_types.specs.declared.names.Column.{Column}
+use Rattle.esql_types.specs.declared.value.Kind.{Kind}
+use Rattle.esql_ast.specs.declared.expr.Expr.{Expr}
+use Rattle.esql_ast.specs.declared.query.Field.{Field}
+use Rattle.esql_ast.specs.declared.query.NamePattern.{NamePattern}
+use Rattle.esql_ast.specs.declared.query.RenamePair.{RenamePair}
+use Rattle.esql_ast.specs.declared.query.Query.{Query}
+use Rattle.esql_ast.specs.declared.query.Command.{Command}
+use Rattle.esql_ast.specs.declared.query.CommandKind.{CommandKind}
+use Rattle.esql_ast.specs.declared.query.CommandKind.TheVariants.{Filter, Eval, Keep, Drop, Rename, Sort, Limit, Expand, Stats, Dissect, Grok, Enrich, Join}
+use Rattle.esql_ast.specs.declared.query.SourceCommand.{SourceCommand}
+use Rattle.esql_ast.specs.declared.query.SourceCommand.TheVariants.{Tables, OneRow}
+use Rattle.esql_ast.specs.NameRules.{keep_places, drop_places, at_places, renamings, renamed_by}
+use Rattle.esql_plan.specs.declared.catalog.Catalog.{Catalog}
+use Rattle.esql_plan.specs.declared.plan.Plan.{Plan}
+use Rattle.esql_plan.specs.declared.plan.PlanSource.{PlanSource}
+use Rattle.esql_plan.specs.declared.plan.PlanSource.TheVariants as source
+use Rattle.esql_plan.specs.declared.plan.ScanColumn.{ScanColumn}
+use Rattle.esql_plan.specs.declared.plan.OutColumn.{OutColumn}
+use Rattle.esql_plan.specs.declared.step.Step.{Step}
+use Rattle.esql_plan.specs.declared.step.Step.TheVariants as step
+use Rattle.esql_plan.specs.declared.typed.TypedExpr.{TypedExpr}
+use Rattle.row_semantics.specs.Fields.{name_of_field}
+use Rattle.row_semantics.specs.Sources.{tables_named, columns_of_tables, columns_or_none}
+use Rattle.row_semantics.specs.Typed.{Visible, typing_of, typed_of}
+use Rattle.query_semantics.specs.Cuts.{last_count}
+
+-- A plan that is being written: the columns that can be seen, the next column number, the patterns that were read so far, and
+-- the steps.
+pub record Writing : Type 0 where
+  pub visible : List OutColumn
+  pub next : ℕ
+  pub whole : List (List ℕ)
+  pub free : List (List ℕ)
+  pub steps : List Step
+
+abbrev pub column_at : ℕ → ColId
+column_at number = record { 0 = number }
+
+-- the names of columns that can be seen
+abbrev pub visible_names : List OutColumn → List (List ℕ)
+visible_names visible = map (λ (column : OutColumn). column.name) visible
+
+-- a column of a number takes the place of that of its name, and stands at the end
+abbrev pub put_visible : List OutColumn → List ℕ → Kind → ℕ → List OutColumn
+put_visible visible name kind number =
+    filter (λ (column : OutColumn). not (bytes_eq column.name name)) visible ++ record { name = name; kind = kind; id = column_at number } ∷ []
+
+-- a column that is seen under another name
+abbrev pub visible_as : List ℕ → OutColumn → OutColumn
+visible_as name column = record { name = name; kind = column.kind; id = column.id }
+
+-- the typed form of an expression over the columns that can be seen; its patterns get the next numbers
+abbrev pub typed_in : Writing → Expr → TypedExpr
+typed_in writing expr = typed_of expr (record { columns = writing.visible; calls = [] }) (length writing.whole) (length writing.free)
+
+-- one more step, which reads the patterns of an expression
+abbrev pub with_step : Writing → Expr → Step → Writing
+with_step writing expr next_step = record writing {
+  whole = writing.whole ++ (typing_of expr).whole;
+  free = writing.free ++ (typing_of expr).free;
+  steps = writing.steps ++ next_step ∷ [];
+}
+
+-- a field makes a column
+abbrev pub write_field : List ℕ → Writing → Field → Writing
+write_field text writing field = record (with_step writing field.expr (step.Eval (column_at writing.next) (typed_in writing field.expr))) {
+  visible = put_visible writing.visible (name_of_field text field) (typed_in writing field.expr).kind writing.next;
+  next = writing.next + 1;
+}
+
+abbrev pub write_fields : List ℕ → List Field → Writing → Writing
+write_fields text fields writing = fold (write_field text) writing fields
+
+abbrev pub write_condition : NodeId → Expr → Writing → Writing
+write_condition node condition writing = with_step writing condition (step.Filter node (typed_in writing condition))
+
+-- KEEP, DROP and RENAME change only what can be seen
+abbrev pub write_keep : List NamePattern → Writing → Writing
+write_keep patterns writing = record writing { visible = at_places (keep_places (visible_names writing.visible) patterns) writing.visible }
+
+abbrev pub write_drop : List NamePattern → Writing → Writing
+write_drop patterns writing = record writing { visible = at_places (drop_places (visible_names writing.visible) patterns) writing.visible }
+
+abbrev pub write_rename : List RenamePair → Writing → Writing
+write_rename pairs writing = record writing { visible = renamed_by visible_as (renamings (visible_names writing.visible) pairs) writing.visible }
+
+abbrev pub write_limit : ℕ → Writing → Writing
+write_limit count writing = record writing { steps = writing.steps ++ step.Limit count ∷ [] }
+
+-- The steps of a command. No plan is written of a query with a command that is not built so far: those write nothing.
+abbrev pub write_kind : List ℕ → NodeId → CommandKind → Writing → Writing
+write_kind text node (Filter condition) writing = write_condition node condition writing
+write_kind text node (Eval fields) writing = write_fields text fields writing
+write_kind text node (Keep patterns) writing = write_keep patterns writing
+write_kind text node (Drop patterns) writing = write_drop patterns writing
+write_kind text node (Rename pairs) writing = write_rename pairs writing
+write_kind text node (Sort keys) writing = writing
+write_kind text node (Limit count) writing = write_limit count writing
+write_kind text node (Expand column) writing = writing
+write_kind text node (Stats fields groups) writing = writing
+write_kind text node (Dissect input pattern separator) writing = writing
+write_kind text node (Grok input pattern) writing = writing
+write_kind text node (Enrich policy on fields) writing = writing
+write_kind text node (Join table on) writing = writing
+
+abbrev pub write_command : List ℕ → Writing → Command → Writing
+write_command text writing command = write_kind text command.node command.kind writing
+
+-- columns with numbers in turn
+abbrev pub numbered_from : ℕ → List Column → List OutColumn
+numbered_from number [] = []
+numbered_from number (column ∷ columns) = record { name = column.name; kind = column.kind; id = column_at number } ∷ numbered_from (number + 1) columns
+
+abbrev pub scan_column : OutColumn → ScanColumn
+scan_column column = record { name = column.name; kind = column.kind; to = column.id }
+
+-- a plan before its first step, over columns that are read
+abbrev pub writing_of_columns : List Column → Writing
+writing_of_columns columns = record { visible = numbered_from 0 columns; next = length columns; whole = []; free = []; steps = [] }
+
+-- FROM reads each table once, and numbers its columns in their order
+abbrev pub source_in_plan : Catalog → SourceCommand → PlanSource
+source_in_plan catalog (Tables node span tables) =
+    source.Scan (tables_named catalog.tables tables) (map scan_column (numbered_from 0 (columns_or_none (columns_of_tables catalog.tables tables))))
+source_in_plan catalog (OneRow node span fields) = source.OneRow
+
+abbrev pub write_source : List ℕ → Catalog → SourceCommand → Writing
+write_source text catalog (Tables node span tables) = writing_of_columns (columns_or_none (columns_of_tables catalog.tables tables))
+write_source text catalog (OneRow node span fields) = write_fields text fields (writing_of_columns [])
+
+-- the whole query, with the last cut at the end
+abbrev pub writing_of : List ℕ → Catalog → Query → Writing
+writing_of text catalog query = write_limit (last_count query) (fold (write_command text) (write_source text catalog query.source) query.commands)
+
+-- a plan, with the texts of the patterns that it reads: those that are matched against whole texts, and those that are searched for
+pub record Written : Type 0 where
+  pub plan : Plan
+  pub whole : List (List ℕ)
+  pub free : List (List ℕ)
+
+abbrev pub written_by : PlanSource → ℕ → Writing → Written
+written_by start nodes writing = record {
+  plan = record { source = start; steps = writing.steps; output = writing.visible; columns = writing.next; nodes = nodes };
+  whole = writing.whole;
+  free = writing.free;
+}
+
+-- the plan that a query is written as
+abbrev pub written_of : List ℕ → Catalog → Query → Written
+written_of text catalog query = written_by (source_in_plan catalog query.source) query.nodes (writing_of text catalog query)

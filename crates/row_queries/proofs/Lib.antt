@@ -1,0 +1,4 @@
+mod FirstUnbuilt
+mod Firsts
+mod Places
+mod Shaped

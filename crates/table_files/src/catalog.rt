@@ -1,0 +1,45 @@
+//! The catalog that tables make.
+ghost use Rattle.std.specs.Prelude.{◌≡◌, map, IfOk};
+ghost use Rattle.table_files.specs.Catalogs.{catalog_of, columns_of, shape_of};
+
+use crate::TableSource;
+use esql_plan::{Catalog, TableShape};
+use esql_types::{Column, Seq};
+use ndjson_load::MappedColumn;
+use std::alloc::{AllocError, Global};
+
+/// The catalog of tables that were found: each with its name and its columns, in order.
+pub fn catalog_of(alloc: Global, sources: &[TableSource]) -> Result<Catalog, AllocError>
+    ensures { IfOk result (λ catalog. catalog ≡ catalog_of sources.now) }
+{
+    let mut tables = Seq::new(alloc);
+    for source in sources {
+        tables.push(shape_of(alloc, source)?)?;
+    }
+    Ok(Catalog {
+        tables,
+        policies: Seq::new(alloc),
+    })
+}
+
+fn shape_of(alloc: Global, source: &TableSource) -> Result<TableShape, AllocError>
+    ensures { IfOk result (λ shape. shape ≡ shape_of source.now) }
+{
+    Ok(TableShape {
+        name: source.name.copy()?,
+        columns: columns_of(alloc, source.columns.as_slice())?,
+    })
+}
+
+fn columns_of(alloc: Global, columns: &[MappedColumn]) -> Result<Seq<Column>, AllocError>
+    ensures { IfOk result (λ copies. copies ≡ columns_of columns.now) }
+{
+    let mut copies = Seq::new(alloc);
+    for mapped in columns {
+        copies.push(Column {
+            name: mapped.column.name.copy()?,
+            kind: mapped.column.kind,
+        })?;
+    }
+    Ok(copies)
+}

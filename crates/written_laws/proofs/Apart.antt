@@ -1,0 +1,107 @@
+-- The columns of a query differ in their names, and its rows have just these names.
+use Rattle.std.proofs.Common.{◌≡◌, ℕ, List, [], ◌∷◌, map, Ok, sym, subst, ◌∙◌}
+use Rattle.std.proofs.lemmas.List.{map-append}
+use Rattle.std.proofs.lemmas.List.Elements.{All-nil, All-cons}
+use Rattle.esql_types.specs.declared.names.Column.{Column}
+use Rattle.esql_types.specs.declared.value.Kind.{Kind}
+use Rattle.esql_ast.specs.declared.query.Field.{Field}
+use Rattle.esql_ast.specs.declared.query.Query.{Query}
+use Rattle.esql_ast.specs.declared.query.Command.{Command}
+use Rattle.esql_ast.specs.declared.query.CommandKind.{CommandKind}
+use Rattle.esql_ast.specs.declared.query.CommandKind.TheVariants.{Filter, Eval, Keep, Drop, Rename, Sort, Limit, Expand, Stats, Dissect, Grok, Enrich, Join}
+use Rattle.esql_ast.specs.declared.query.SourceCommand.{SourceCommand}
+use Rattle.esql_ast.specs.declared.query.SourceCommand.TheVariants.{Tables, OneRow}
+use Rattle.esql_ast.specs.NameRules.{first_unmet, first_missing}
+use Rattle.esql_plan.specs.declared.catalog.Catalog.{Catalog}
+use Rattle.esql_plan.specs.declared.plan.OutColumn.{OutColumn}
+use Rattle.esql_plan.specs.Values.{NumberedRow}
+use Rattle.plan_semantics.specs.Tables.{TableHeld, catalog_tables}
+use Rattle.plan_semantics.specs.Steps.{rows_after}
+use Rattle.plan_semantics.specs.Plans.{columns_of}
+use Rattle.row_semantics.specs.Fields.{name_of_field}
+use Rattle.row_semantics.specs.Kinds.{kind_or_rule}
+use Rattle.row_semantics.specs.Columns.{names_of, HaveDistinctNames, put_column, without_column}
+use Rattle.row_semantics.specs.Regulars.{is_accepted}
+use Rattle.row_semantics.specs.Sources.{columns_of_tables}
+use Rattle.query_semantics.specs.Commands.{names_in}
+use Rattle.query_semantics.specs.Meaning.{meaning_of, AreRowsOf}
+use Rattle.query_semantics.specs.Shapes.{Context, scope_over, shape_of_field, shape_of_fields, shape_of_kind, unless_empty, shape_of_command, shape_of_commands, shape_of_source, shape_of}
+use Rattle.query_semantics.specs.Written.{Writing, writing_of}
+use Rattle.written_laws.specs.Named.{named_row}
+use Rattle.written_laws.proofs.Kinded.{found_of, ok_is}
+use Rattle.written_laws.proofs.Named.{names_in-named, names_of-columns}
+use Rattle.written_laws.proofs.Shown.{unmet_is, missing_is, empty_is, condition_shows}
+use Rattle.written_laws.proofs.Whole.{start_of, rows_are, columns_are}
+use Rattle.written_laws.proofs.Distinct.{AreDistinct, distinct_nil, distinct_put}
+use Rattle.written_laws.proofs.NamesKept.{columns_keep, columns_drop, columns_rename}
+use Rattle.written_laws.proofs.Ordered.{tables_distinct}
+
+-- names that differ -----------------------------------------------------------------------------------------------------
+
+same_distinct : (columns after : List Column) → columns ≡ after → HaveDistinctNames columns → HaveDistinctNames after
+same_distinct columns after is distinct = subst HaveDistinctNames is distinct
+
+put_distinct : (columns : List Column) (name : List ℕ) (kind : Kind) → HaveDistinctNames columns → HaveDistinctNames (put_column columns name kind)
+put_distinct columns name kind distinct =
+    subst AreDistinct (sym (map-append (λ (column : Column). column.name) (without_column columns name) (record { name = name; kind = kind } ∷ [])))
+    (distinct_put (λ (column : Column). column.name) name columns distinct)
+
+fields_distinct : (context : Context) (fields : List Field) (columns after : List Column) → HaveDistinctNames columns → shape_of_fields context fields columns ≡ Ok after → HaveDistinctNames after
+fields_distinct context [] columns after distinct is = same_distinct columns after (ok_is is) distinct
+fields_distinct context (field ∷ fields) columns after distinct is =
+    let found = found_of (shape_of_field context field columns) (shape_of_fields context fields) after is in
+    let one = found_of (kind_or_rule field.expr (scope_over context columns)) (λ kind. Ok (put_column columns (name_of_field context.text field) kind)) found.value found.is in
+    fields_distinct context fields found.value after
+    (same_distinct _ found.value (ok_is one.next_is) (put_distinct columns (name_of_field context.text field) one.value distinct)) found.next_is
+
+kind_distinct : (context : Context) (kind : CommandKind) (columns after : List Column) → HaveDistinctNames columns → shape_of_kind context kind columns ≡ Ok after → HaveDistinctNames after
+kind_distinct context (Filter condition) columns after distinct is = same_distinct columns after (condition_shows context condition columns after is) distinct
+kind_distinct context (Eval fields) columns after distinct is = fields_distinct context fields columns after distinct is
+kind_distinct context (Keep patterns) columns after distinct is =
+    same_distinct _ after (unmet_is (first_unmet (names_of columns) patterns) _ after is) (columns_keep columns patterns distinct)
+kind_distinct context (Drop patterns) columns after distinct is =
+    same_distinct _ after (unmet_is (first_unmet (names_of columns) patterns) _ after is) (columns_drop columns patterns distinct)
+kind_distinct context (Rename pairs) columns after distinct is =
+    same_distinct _ after (missing_is (first_missing (names_of columns) pairs) _ after is) (columns_rename columns pairs distinct)
+kind_distinct context (Limit count) columns after distinct is = same_distinct columns after (ok_is is) distinct
+kind_distinct context (Sort keys) columns after distinct is = same_distinct columns after (ok_is is) distinct
+kind_distinct context (Expand column) columns after distinct is = same_distinct columns after (ok_is is) distinct
+kind_distinct context (Stats fields groups) columns after distinct is = same_distinct columns after (ok_is is) distinct
+kind_distinct context (Dissect input pattern separator) columns after distinct is = same_distinct columns after (ok_is is) distinct
+kind_distinct context (Grok input pattern) columns after distinct is = same_distinct columns after (ok_is is) distinct
+kind_distinct context (Enrich policy on fields) columns after distinct is = same_distinct columns after (ok_is is) distinct
+kind_distinct context (Join table on) columns after distinct is = same_distinct columns after (ok_is is) distinct
+
+commands_distinct : (context : Context) (commands : List Command) (columns after : List Column) → HaveDistinctNames columns → shape_of_commands context commands columns ≡ Ok after → HaveDistinctNames after
+commands_distinct context [] columns after distinct is = same_distinct columns after (ok_is is) distinct
+commands_distinct context (command ∷ commands) columns after distinct is =
+    let found = found_of (shape_of_command context command columns) (shape_of_commands context commands) after is in
+    let own = found_of (shape_of_kind context command.kind columns) (unless_empty command.span) found.value found.is in
+    commands_distinct context commands found.value after
+    (same_distinct own.value found.value (empty_is command.span own.value found.value own.next_is) (kind_distinct context command.kind columns own.value distinct own.is)) found.next_is
+
+source_distinct : (context : Context) (source : SourceCommand) (columns : List Column) → shape_of_source context source ≡ Ok columns → HaveDistinctNames columns
+source_distinct context (Tables node span names) columns is =
+    let found = found_of (columns_of_tables context.catalog.tables names) (unless_empty span) columns is in
+    same_distinct found.value columns (empty_is span found.value columns found.next_is) (tables_distinct context.catalog.tables names found.value found.is)
+source_distinct context (OneRow node span fields) columns is = fields_distinct context fields [] columns distinct_nil is
+
+pub names_distinct : (text : List ℕ) (catalog : Catalog) (query : Query) (columns : List Column) → shape_of text catalog query ≡ Ok columns → HaveDistinctNames columns
+names_distinct text catalog query columns is =
+    let context : Context = record { text = text; catalog = catalog; accepts = is_accepted } in
+    let found = found_of (shape_of_source context query.source) (shape_of_commands context query.commands) columns is in
+    commands_distinct context query.commands found.value columns (source_distinct context query.source found.value found.is) found.next_is
+
+-- the rows -----------------------------------------------------------------------------------------------------------------
+
+rows_named : (visible : List OutColumn) (rows : List NumberedRow) → AreRowsOf (columns_of visible) (map (named_row visible) rows)
+rows_named visible [] = All-nil (λ row. names_in row ≡ names_of (columns_of visible))
+rows_named visible (row ∷ rows) =
+    All-cons (λ row. names_in row ≡ names_of (columns_of visible)) (named_row visible row) (map (named_row visible) rows) (names_in-named visible row ∙ sym (names_of-columns visible)) (rows_named visible rows)
+
+pub are_rows : (text : List ℕ) (tables : List TableHeld) (catalog : Catalog) (query : Query) (columns : List Column) → catalog.tables ≡ catalog_tables tables
+    → shape_of text catalog query ≡ Ok columns → AreRowsOf columns (meaning_of text tables query).rows
+are_rows text tables catalog query columns tables_are is =
+    let writing : Writing = writing_of text catalog query in
+    subst (λ these. AreRowsOf these (meaning_of text tables query).rows) (sym (columns_are text catalog query columns is))
+    (subst (AreRowsOf (columns_of writing.visible)) (sym (rows_are text tables catalog query tables_are)) (rows_named writing.visible (rows_after writing.steps (start_of tables catalog query))))

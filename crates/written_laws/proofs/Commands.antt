@@ -1,0 +1,150 @@
+-- Each command does to rows of names what its steps do to rows of numbers.
+use Rattle.std.proofs.Common.{◌≡◌, ℕ, List, [], ◌∷◌, ◌++◌, map, fold, take, refl, ap, sym, subst, ◌∙◌, append_assoc}
+use Rattle.std.proofs.lemmas.List.{append-nil, take-map}
+use Rattle.esql_types.specs.declared.names.NodeId.{NodeId}
+use Rattle.esql_types.specs.declared.cause.Failure.{Failure}
+use Rattle.esql_ast.specs.declared.expr.Expr.{Expr}
+use Rattle.esql_ast.specs.declared.query.Field.{Field}
+use Rattle.esql_ast.specs.declared.query.Command.{Command}
+use Rattle.esql_ast.specs.declared.query.CommandKind.{CommandKind}
+use Rattle.esql_ast.specs.declared.query.CommandKind.TheVariants.{Filter, Eval, Keep, Drop, Rename, Limit}
+use Rattle.esql_plan.specs.declared.plan.OutColumn.{OutColumn}
+use Rattle.esql_plan.specs.declared.step.Step.{Step}
+use Rattle.esql_plan.specs.declared.step.Step.TheVariants as step
+use Rattle.esql_plan.specs.declared.typed.TypedExpr.{TypedExpr}
+use Rattle.esql_plan.specs.Values.{Valued, NumberedRow, value_of_typed}
+use Rattle.plan_semantics.specs.Tables.{with_cell}
+use Rattle.plan_semantics.specs.Steps.{is_true, failures_of_condition, step_fails, step_rows, step_failures, rows_after, failures_after}
+use Rattle.plan_semantics.proofs.Splits.{rows_after-append, failures_after-append}
+use Rattle.row_semantics.specs.Rows.{Row, put}
+use Rattle.row_semantics.specs.Fields.{name_of_field}
+use Rattle.query_semantics.specs.Commands.{value_in_row, row_with_field, rows_of_fields, failures_of_fields, failures_of_expr, rows_of_condition, failures_of_rows, rows_of_kind, failures_of_kind, rows_of_commands, failures_of_commands, kept_of_row, left_of_row, renamed_row}
+use Rattle.query_semantics.specs.Written.{Writing, column_at, put_visible, typed_in, write_field, write_fields, write_kind, write_command}
+use Rattle.written_laws.specs.Named.{named_row}
+use Rattle.written_laws.proofs.Squares.{map_square, map_map, map_same, flat_map_square, filter_square, filter_each}
+use Rattle.written_laws.proofs.Named.{AllBelow, named_put, below_put, kept-named, left-named, renamed-named, below-places, below-renamed}
+use Rattle.written_laws.proofs.Valued.{expr_valued}
+
+-- what has been written stands for rows of names and the failures on the way, over the rows that the source gives
+pub record Stands (start : List NumberedRow) (rows : List Row) (failures : List Failure) (writing : Writing) : Type 0 where
+  pub rows_are : rows ≡ map (named_row writing.visible) (rows_after writing.steps start)
+  pub failures_are : failures ≡ failures_after writing.steps start
+  pub below : AllBelow writing.next writing.visible
+
+-- a step at the end
+failures_after-push : (steps : List Step) (step : Step) (start : List NumberedRow)
+    → failures_after (steps ++ step ∷ []) start ≡ failures_after steps start ++ step_failures step (rows_after steps start)
+failures_after-push steps step start =
+    failures_after-append steps (step ∷ []) start
+    ∙ ap (λ (these : List Failure). failures_after steps start ++ these) (append-nil (step_failures step (rows_after steps start)))
+
+-- one more step, on what can be seen then
+module _ (start : List NumberedRow) (rows : List Row) (failures : List Failure) (writing : Writing) (stands : Stands start rows failures writing) where
+  abbrev so_far : List NumberedRow
+  so_far = rows_after writing.steps start
+
+  rows_pushed : (visible : List OutColumn) (step : Step) (after : List Row → List Row)
+      → after (map (named_row writing.visible) so_far) ≡ map (named_row visible) (step_rows step so_far)
+      → after rows ≡ map (named_row visible) (rows_after (writing.steps ++ step ∷ []) start)
+  rows_pushed visible step after is = ap after stands.rows_are ∙ is ∙ ap (map (named_row visible)) (sym (rows_after-append writing.steps (step ∷ []) start))
+
+  failures_pushed : (step : Step) (after : List Row → List Failure)
+      → after (map (named_row writing.visible) so_far) ≡ step_failures step so_far
+      → failures ++ after rows ≡ failures_after (writing.steps ++ step ∷ []) start
+  failures_pushed step after is =
+      (λ i. stands.failures_are i ++ (ap after stands.rows_are ∙ is) i) ∙ sym (failures_after-push writing.steps step start)
+
+  -- a field
+  pub field_stands : (text : List ℕ) (field : Field) → Stands start (map (row_with_field text field) rows) (failures ++ failures_of_expr field.expr rows) (write_field text writing field)
+  field_stands text field =
+      let typed : TypedExpr = typed_in writing field.expr in
+      let name : List ℕ = name_of_field text field in
+      let new : Step = step.Eval (column_at writing.next) typed in
+      let visible : List OutColumn = put_visible writing.visible name typed.kind writing.next in
+      let valued : (row : NumberedRow) → value_in_row field.expr (named_row writing.visible row) ≡ value_of_typed typed row = λ row. sym (expr_valued field.expr writing.visible _ _ row) in
+      let one : (row : NumberedRow) → row_with_field text field (named_row writing.visible row) ≡ named_row visible (with_cell row writing.next (value_of_typed typed row).cell) =
+      λ row.
+      ap (λ (these : Valued). put (named_row writing.visible row) name these.cell) (valued row)
+      ∙ named_put writing.visible row name typed.kind writing.next (value_of_typed typed row).cell stands.below in
+      record {
+        rows_are = rows_pushed visible new (map (row_with_field text field))
+            (map_square (row_with_field text field) (named_row writing.visible) (named_row visible) (λ (row : NumberedRow). with_cell row writing.next (value_of_typed typed row).cell) one so_far);
+        failures_are = failures_pushed new (failures_of_expr field.expr)
+            (flat_map_square (λ (row : Row). (value_in_row field.expr row).failures) (named_row writing.visible) (step_fails new) (λ row. ap (λ (these : Valued). these.failures) (valued row)) so_far);
+        below = below_put writing.visible name typed.kind writing.next stands.below;
+      }
+
+  -- WHERE
+  pub condition_stands : (text : List ℕ) (node : NodeId) (condition : Expr)
+      → Stands start (rows_of_condition condition rows) (failures ++ failures_of_rows node condition rows) (write_kind text node (Filter condition) writing)
+  condition_stands text node condition =
+      let typed : TypedExpr = typed_in writing condition in
+      let new : Step = step.Filter node typed in
+      let valued : (row : NumberedRow) → value_in_row condition (named_row writing.visible row) ≡ value_of_typed typed row = λ row. sym (expr_valued condition writing.visible _ _ row) in
+      record {
+        rows_are = rows_pushed writing.visible new (rows_of_condition condition)
+            (filter_square (λ (row : Row). is_true (value_in_row condition row).cell) (named_row writing.visible) (λ (row : NumberedRow). is_true (value_of_typed typed row).cell)
+            (λ row. ap (λ (these : Valued). is_true these.cell) (valued row)) so_far
+            ∙ ap (map (named_row writing.visible)) (filter_each (λ (row : NumberedRow). is_true (value_of_typed typed row).cell) so_far));
+        failures_are = failures_pushed new (failures_of_rows node condition)
+            (flat_map_square (λ (row : Row). failures_of_condition node (value_in_row condition row)) (named_row writing.visible) (step_fails new) (λ row. ap (failures_of_condition node) (valued row)) so_far);
+        below = stands.below;
+      }
+
+  -- KEEP, DROP and RENAME
+  seen_stands : (visible : List OutColumn) (of_row : Row → Row) → ((row : NumberedRow) → of_row (named_row writing.visible row) ≡ named_row visible row) → AllBelow writing.next visible
+      → Stands start (map of_row rows) (failures ++ []) (record writing { visible = visible })
+  seen_stands visible of_row one below = record {
+    rows_are = ap (map of_row) stands.rows_are ∙ map_map of_row (named_row writing.visible) so_far ∙ map_same (λ (row : NumberedRow). of_row (named_row writing.visible row)) (named_row visible) one so_far;
+    failures_are = append-nil failures ∙ stands.failures_are;
+    below = below;
+  }
+
+  -- LIMIT
+  pub limit_stands : (text : List ℕ) (node : NodeId) (count : ℕ) → Stands start (take count rows) (failures ++ []) (write_kind text node (Limit count) writing)
+  limit_stands text node count = record {
+    rows_are = rows_pushed writing.visible (step.Limit count) (take count) (take-map (named_row writing.visible) count so_far);
+    failures_are = failures_pushed (step.Limit count) (λ these. []) (none_failing so_far);
+    below = stands.below;
+  }
+    where
+      none_failing : (rows : List NumberedRow) → [] ≡ step_failures (step.Limit count) rows
+      none_failing [] = refl
+      none_failing (row ∷ rows) = none_failing rows
+
+  unbuilt_stands : Stands start rows (failures ++ []) writing
+  unbuilt_stands = record { rows_are = stands.rows_are; failures_are = append-nil failures ∙ stands.failures_are; below = stands.below }
+
+-- fields in turn
+pub fields_stand : (text : List ℕ) (start : List NumberedRow) (fields : List Field) (rows : List Row) (failures : List Failure) (writing : Writing) → Stands start rows failures writing
+    → Stands start (rows_of_fields text fields rows) (failures ++ failures_of_fields text fields rows) (write_fields text fields writing)
+fields_stand text start [] rows failures writing stands = unbuilt_stands start rows failures writing stands
+fields_stand text start (field ∷ fields) rows failures writing stands =
+    subst (λ these. Stands start (rows_of_fields text (field ∷ fields) rows) these (write_fields text (field ∷ fields) writing))
+    (append_assoc failures (failures_of_expr field.expr rows) (failures_of_fields text fields (map (row_with_field text field) rows)))
+    (fields_stand text start fields (map (row_with_field text field) rows) (failures ++ failures_of_expr field.expr rows) (write_field text writing field)
+    (field_stands start rows failures writing stands text field))
+
+-- a command
+pub kind_stands : (text : List ℕ) (start : List NumberedRow) (node : NodeId) (kind : CommandKind) (rows : List Row) (failures : List Failure) (writing : Writing) → Stands start rows failures writing
+    → Stands start (rows_of_kind text kind rows) (failures ++ failures_of_kind text node kind rows) (write_kind text node kind writing)
+kind_stands text start node (Filter condition) rows failures writing stands = condition_stands start rows failures writing stands text node condition
+kind_stands text start node (Eval fields) rows failures writing stands = fields_stand text start fields rows failures writing stands
+kind_stands text start node (Keep patterns) rows failures writing stands =
+    seen_stands start rows failures writing stands _ (kept_of_row patterns) (kept-named patterns writing.visible) (below-places writing.next _ writing.visible stands.below)
+kind_stands text start node (Drop patterns) rows failures writing stands =
+    seen_stands start rows failures writing stands _ (left_of_row patterns) (left-named patterns writing.visible) (below-places writing.next _ writing.visible stands.below)
+kind_stands text start node (Rename pairs) rows failures writing stands =
+    seen_stands start rows failures writing stands _ (renamed_row pairs) (renamed-named pairs writing.visible) (below-renamed writing.next _ writing.visible stands.below)
+kind_stands text start node (Limit count) rows failures writing stands = limit_stands start rows failures writing stands text node count
+kind_stands text start node other rows failures writing stands = unbuilt_stands start rows failures writing stands
+
+-- commands in turn
+pub commands_stand : (text : List ℕ) (start : List NumberedRow) (commands : List Command) (rows : List Row) (failures : List Failure) (writing : Writing) → Stands start rows failures writing
+    → Stands start (rows_of_commands text commands rows) (failures ++ failures_of_commands text commands rows) (fold (write_command text) writing commands)
+commands_stand text start [] rows failures writing stands = unbuilt_stands start rows failures writing stands
+commands_stand text start (command ∷ commands) rows failures writing stands =
+    subst (λ these. Stands start (rows_of_commands text (command ∷ commands) rows) these (fold (write_command text) writing (command ∷ commands)))
+    (append_assoc failures (failures_of_kind text command.node command.kind rows) (failures_of_commands text commands (rows_of_kind text command.kind rows)))
+    (commands_stand text start commands (rows_of_kind text command.kind rows) (failures ++ failures_of_kind text command.node command.kind rows) (write_command text writing command)
+    (kind_stands text start command.node command.kind rows failures writing stands))

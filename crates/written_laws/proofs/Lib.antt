@@ -1,0 +1,14 @@
+pub mod Readings
+pub mod Valued
+pub mod Kinded
+pub mod Squares
+pub mod Named
+pub mod Commands
+pub mod Sources
+pub mod Shown
+pub mod Whole
+pub mod Distinct
+pub mod NamesKept
+pub mod Ordered
+pub mod Apart
+pub mod Limits

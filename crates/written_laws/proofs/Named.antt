@@ -1,0 +1,127 @@
+-- Rows of names are what is seen of rows of numbers.
+use Rattle.std.proofs.Common.{◌≡◌, ℕ, ◌+◌, ◌<◌, Bool, true, false, not, cond, ◌==◌, List, [], ◌∷◌, ◌++◌, filter, All, refl, ap, sym, ◌∙◌, arith}
+use Rattle.std.specs.Str.{bytes_eq}
+use Rattle.std.proofs.lemmas.List.{map-append}
+use Rattle.std.proofs.lemmas.List.Elements.{All-filter, All-push, All-weaker}
+use Rattle.esql_types.specs.declared.value.Value.{Value}
+use Rattle.esql_types.specs.declared.value.Kind.{Kind}
+use Rattle.esql_types.specs.declared.names.Column.{Column}
+use Rattle.esql_ast.specs.declared.query.NamePattern.{NamePattern}
+use Rattle.esql_ast.specs.declared.query.RenamePair.{RenamePair}
+use Rattle.esql_ast.specs.NameRules.{Renaming, keep_places, drop_places, at_places, renamings, renamed_by}
+use Rattle.esql_plan.specs.declared.plan.OutColumn.{OutColumn}
+use Rattle.esql_plan.specs.Values.{NumberedRow}
+use Rattle.plan_semantics.specs.Tables.{with_cell}
+use Rattle.plan_semantics.specs.Plans.{columns_of, shown_row}
+use Rattle.row_semantics.specs.declared.row.NamedCell.{NamedCell}
+use Rattle.row_semantics.specs.Rows.{Row, put}
+use Rattle.row_semantics.specs.Columns.{names_of, put_column, column_as}
+use Rattle.query_semantics.specs.Commands.{names_in, cells_of, kept_of_row, left_of_row, renamed_row, cell_as}
+use Rattle.query_semantics.specs.Written.{put_visible, visible_names, visible_as, column_at}
+use Rattle.written_laws.specs.Named.{named_cell, named_row}
+use Rattle.written_laws.proofs.Squares.{map_all, map_map, filter_square, at_places-map, renamed_by-map, All-at_places, All-renamed_by}
+
+-- the numbers are below the next one
+abbrev pub IsBelow : ℕ → OutColumn → Type 0
+IsBelow next column = column.id.0 < next
+
+abbrev pub AllBelow : ℕ → List OutColumn → Type 0
+AllBelow next visible = All (IsBelow next) visible
+
+eq_itself : (n : ℕ) → n == n ≡ true
+eq_itself n = grind arith
+
+eq_below : (m n : ℕ) → m < n → m == n ≡ false
+eq_below m n below = grind arith
+
+pub cell_put : (row : NumberedRow) (id : ℕ) (cell : List Value) → with_cell row id cell id ≡ cell
+cell_put row id cell = ap (λ (b : Bool). cond b cell (row id)) (eq_itself id)
+
+cell_kept : (row : NumberedRow) (id other : ℕ) (cell : List Value) → other < id → with_cell row id cell other ≡ row other
+cell_kept row id other cell below = ap (λ (b : Bool). cond b cell (row other)) (eq_below other id below)
+
+-- a new number is seen nowhere
+named_kept : (visible : List OutColumn) (row : NumberedRow) (id : ℕ) (cell : List Value) → AllBelow id visible → named_row visible (with_cell row id cell) ≡ named_row visible row
+named_kept visible row id cell below =
+    map_all (IsBelow id) (named_cell (with_cell row id cell)) (named_cell row)
+    (λ column less. ap (λ (these : List Value). record { name = column.name; cell = these }) (cell_kept row id column.id.0 cell less)) visible below
+
+abbrev is_other : List ℕ → OutColumn → Bool
+is_other name column = not (bytes_eq column.name name)
+
+pub named_put : (visible : List OutColumn) (row : NumberedRow) (name : List ℕ) (kind : Kind) (id : ℕ) (cell : List Value) → AllBelow id visible
+    → put (named_row visible row) name cell ≡ named_row (put_visible visible name kind id) (with_cell row id cell)
+named_put visible row name kind id cell below =
+    let kept : List OutColumn = filter (is_other name) visible in
+    let new : NumberedRow = with_cell row id cell in
+    ap (λ (these : Row). these ++ record { name = name; cell = cell } ∷ []) (filter_square (λ (named : NamedCell). not (bytes_eq named.name name)) (named_cell row) (is_other name) (λ column. refl) visible)
+    ∙ (λ i. sym (named_kept kept row id cell (All-filter (is_other name) (IsBelow id) visible below)) i ++ record { name = name; cell = sym (cell_put row id cell) i } ∷ [])
+    ∙ sym (map-append (named_cell new) kept (record { name = name; kind = kind; id = column_at id } ∷ []))
+
+abbrev column_of : OutColumn → Column
+column_of column = record { name = column.name; kind = column.kind }
+
+pub columns_put : (visible : List OutColumn) (name : List ℕ) (kind : Kind) (id : ℕ) → put_column (columns_of visible) name kind ≡ columns_of (put_visible visible name kind id)
+columns_put visible name kind id =
+    ap (λ (these : List Column). these ++ record { name = name; kind = kind } ∷ []) (filter_square (λ (column : Column). not (bytes_eq column.name name)) column_of (is_other name) (λ column. refl) visible)
+    ∙ sym (map-append column_of (filter (is_other name) visible) (record { name = name; kind = kind; id = column_at id } ∷ []))
+
+pub below_put : (visible : List OutColumn) (name : List ℕ) (kind : Kind) (id : ℕ) → AllBelow id visible → AllBelow (id + 1) (put_visible visible name kind id)
+below_put visible name kind id below =
+    All-push (IsBelow (id + 1)) (filter (is_other name) visible) (record { name = name; kind = kind; id = column_at id })
+    (All-weaker (IsBelow id) (IsBelow (id + 1)) (λ column less. omega (arith, less)) _ (All-filter (is_other name) (IsBelow id) visible below))
+    (omega arith)
+
+-- names and cells
+pub names_of-columns : (visible : List OutColumn) → names_of (columns_of visible) ≡ visible_names visible
+names_of-columns visible = map_map (λ (column : Column). column.name) column_of visible
+
+pub names_in-named : (visible : List OutColumn) (row : NumberedRow) → names_in (named_row visible row) ≡ visible_names visible
+names_in-named visible row = map_map (λ (named : NamedCell). named.name) (named_cell row) visible
+
+pub cells_of-named : (visible : List OutColumn) (row : NumberedRow) → cells_of (named_row visible row) ≡ shown_row visible row
+cells_of-named visible row = map_map (λ (named : NamedCell). named.cell) (named_cell row) visible
+
+-- KEEP, DROP and RENAME, on rows
+pub kept-named : (patterns : List NamePattern) (visible : List OutColumn) (row : NumberedRow)
+    → kept_of_row patterns (named_row visible row) ≡ named_row (at_places (keep_places (visible_names visible) patterns) visible) row
+kept-named patterns visible row =
+    ap (λ (names : List (List ℕ)). at_places (keep_places names patterns) (named_row visible row)) (names_in-named visible row)
+    ∙ at_places-map (named_cell row) (keep_places (visible_names visible) patterns) visible
+
+pub left-named : (patterns : List NamePattern) (visible : List OutColumn) (row : NumberedRow)
+    → left_of_row patterns (named_row visible row) ≡ named_row (at_places (drop_places (visible_names visible) patterns) visible) row
+left-named patterns visible row =
+    ap (λ (names : List (List ℕ)). at_places (drop_places names patterns) (named_row visible row)) (names_in-named visible row)
+    ∙ at_places-map (named_cell row) (drop_places (visible_names visible) patterns) visible
+
+pub renamed-named : (pairs : List RenamePair) (visible : List OutColumn) (row : NumberedRow)
+    → renamed_row pairs (named_row visible row) ≡ named_row (renamed_by visible_as (renamings (visible_names visible) pairs) visible) row
+renamed-named pairs visible row =
+    ap (λ (names : List (List ℕ)). renamed_by cell_as (renamings names pairs) (named_row visible row)) (names_in-named visible row)
+    ∙ renamed_by-map (named_cell row) visible_as cell_as (λ name column. refl) (renamings (visible_names visible) pairs) visible
+
+-- and on columns
+pub columns-kept : (patterns : List NamePattern) (visible : List OutColumn)
+    → at_places (keep_places (names_of (columns_of visible)) patterns) (columns_of visible) ≡ columns_of (at_places (keep_places (visible_names visible) patterns) visible)
+columns-kept patterns visible =
+    ap (λ (names : List (List ℕ)). at_places (keep_places names patterns) (columns_of visible)) (names_of-columns visible)
+    ∙ at_places-map column_of (keep_places (visible_names visible) patterns) visible
+
+pub columns-left : (patterns : List NamePattern) (visible : List OutColumn)
+    → at_places (drop_places (names_of (columns_of visible)) patterns) (columns_of visible) ≡ columns_of (at_places (drop_places (visible_names visible) patterns) visible)
+columns-left patterns visible =
+    ap (λ (names : List (List ℕ)). at_places (drop_places names patterns) (columns_of visible)) (names_of-columns visible)
+    ∙ at_places-map column_of (drop_places (visible_names visible) patterns) visible
+
+pub columns-renamed : (pairs : List RenamePair) (visible : List OutColumn)
+    → renamed_by column_as (renamings (names_of (columns_of visible)) pairs) (columns_of visible) ≡ columns_of (renamed_by visible_as (renamings (visible_names visible) pairs) visible)
+columns-renamed pairs visible =
+    ap (λ (names : List (List ℕ)). renamed_by column_as (renamings names pairs) (columns_of visible)) (names_of-columns visible)
+    ∙ renamed_by-map column_of visible_as column_as (λ name column. refl) (renamings (visible_names visible) pairs) visible
+
+pub below-places : (next : ℕ) (places : List ℕ) (visible : List OutColumn) → AllBelow next visible → AllBelow next (at_places places visible)
+below-places next places visible below = All-at_places (IsBelow next) places visible below
+
+pub below-renamed : (next : ℕ) (these : List Renaming) (visible : List OutColumn) → AllBelow next visible → AllBelow next (renamed_by visible_as these visible)
+below-renamed next these visible below = All-renamed_by (IsBelow next) visible_as (λ name column less. less) these visible below

@@ -1,0 +1,121 @@
+-- The columns that can be seen after what has been written are those of the shape.
+use Rattle.std.proofs.Common.{◌≡◌, ℕ, Bool, true, false, cond, List, [], ◌∷◌, fold, Option, Some, None, Ok, Err, refl, ap, sym, ◌∙◌}
+use Rattle.esql_types.specs.declared.names.Column.{Column}
+use Rattle.esql_types.specs.declared.names.NodeId.{NodeId}
+use Rattle.esql_types.specs.declared.value.Kind.TheVariants as kind
+use Rattle.esql_types.specs.declared.places.Span.{Span}
+use Rattle.esql_ast.specs.declared.expr.Expr.{Expr}
+use Rattle.esql_ast.specs.declared.query.Field.{Field}
+use Rattle.esql_ast.specs.declared.query.NamePattern.{NamePattern}
+use Rattle.esql_ast.specs.declared.query.RenamePair.{RenamePair}
+use Rattle.esql_ast.specs.declared.query.Command.{Command}
+use Rattle.esql_ast.specs.declared.query.CommandKind.{CommandKind}
+use Rattle.esql_ast.specs.declared.query.CommandKind.TheVariants.{Filter, Eval, Keep, Drop, Rename, Sort, Limit, Expand, Stats, Dissect, Grok, Enrich, Join}
+use Rattle.esql_ast.specs.declared.query.SourceCommand.{SourceCommand}
+use Rattle.esql_ast.specs.declared.query.SourceCommand.TheVariants.{Tables, OneRow}
+use Rattle.esql_ast.specs.NameRules.{first_unmet, first_missing, keep_places, drop_places, at_places, renamings, renamed_by}
+use Rattle.esql_plan.specs.Signatures.{is_kind}
+use Rattle.plan_semantics.specs.Plans.{columns_of}
+use Rattle.row_semantics.specs.Scopes.{Broken, Scope}
+use Rattle.row_semantics.specs.Kinds.{kind_or_rule}
+use Rattle.row_semantics.specs.Fields.{name_of_field}
+use Rattle.row_semantics.specs.Columns.{names_of, put_column, column_as}
+use Rattle.row_semantics.specs.Sources.{columns_of_tables, columns_or_none}
+use Rattle.query_semantics.specs.Shapes.{Context, Shape, scope_over, shape_of_field, shape_of_fields, shape_of_condition, unless_unmet, unless_missing, shape_of_kind, unless_empty, shape_of_command, shape_of_commands, shape_of_source}
+use Rattle.query_semantics.specs.Written.{Writing, typed_in, write_field, write_fields, write_kind, write_command, write_source, writing_of_columns}
+use Rattle.written_laws.proofs.Named.{columns_put, columns-kept, columns-left, columns-renamed}
+use Rattle.written_laws.proofs.Kinded.{found_of, ok_is, expr_kinded}
+use Rattle.written_laws.proofs.Sources.{columns_of-numbered}
+
+-- the columns that can be seen are these
+abbrev pub Shows : Writing → List Column → Type 0
+Shows writing columns = columns ≡ columns_of writing.visible
+
+pub unmet_is : (unmet : Option NamePattern) (columns after : List Column) → unless_unmet unmet columns ≡ Ok after → columns ≡ after
+unmet_is None columns after is = ok_is is
+unmet_is (Some pattern) columns after is = absurd cc
+
+pub missing_is : (missing : Option RenamePair) (columns after : List Column) → unless_missing missing columns ≡ Ok after → columns ≡ after
+missing_is None columns after is = ok_is is
+missing_is (Some pair) columns after is = absurd cc
+
+pub empty_is : (span : Span) (columns after : List Column) → unless_empty span columns ≡ Ok after → columns ≡ after
+empty_is span [] after is = absurd cc
+empty_is span (column ∷ columns) after is = ok_is is
+
+either_is : (truth : Bool) (broken : Broken) (columns after : List Column) → ◌≡◌ {A = Shape} (cond truth (Ok columns) (Err broken)) (Ok after) → columns ≡ after
+either_is true broken columns after is = ok_is is
+either_is false broken columns after is = absurd cc
+
+-- a field
+field_shows : (context : Context) (field : Field) (columns after : List Column) (writing : Writing) → Shows writing columns → shape_of_field context field columns ≡ Ok after
+    → Shows (write_field context.text writing field) after
+field_shows context field columns after writing shows is =
+    let scope : Scope = scope_over context columns in
+    let name : List ℕ = name_of_field context.text field in
+    let found = found_of (kind_or_rule field.expr scope) (λ kind. Ok (put_column columns name kind)) after is in
+    let kinded : (typed_in writing field.expr).kind ≡ found.value =
+    expr_kinded field.expr (record { columns = writing.visible; calls = [] }) scope found.value (record { columns = shows; outside = refl }) found.is _ _ in
+    sym (ok_is found.next_is)
+    ∙ (λ i. put_column (shows i) name (sym kinded i))
+    ∙ columns_put writing.visible name (typed_in writing field.expr).kind writing.next
+
+pub fields_show : (context : Context) (fields : List Field) (columns after : List Column) (writing : Writing) → Shows writing columns → shape_of_fields context fields columns ≡ Ok after
+    → Shows (write_fields context.text fields writing) after
+fields_show context [] columns after writing shows is = sym (ok_is is) ∙ shows
+fields_show context (field ∷ fields) columns after writing shows is =
+    let found = found_of (shape_of_field context field columns) (shape_of_fields context fields) after is in
+    fields_show context fields found.value after (write_field context.text writing field) (field_shows context field columns found.value writing shows found.is) found.next_is
+
+pub condition_shows : (context : Context) (condition : Expr) (columns after : List Column) → shape_of_condition context condition columns ≡ Ok after → columns ≡ after
+condition_shows context condition columns after is =
+    let found = found_of (kind_or_rule condition (scope_over context columns)) _ after is in
+    either_is (is_kind kind.Boolean found.value) _ columns after found.next_is
+
+-- a command
+pub kind_shows : (context : Context) (node : NodeId) (kind : CommandKind) (columns after : List Column) (writing : Writing) → Shows writing columns → shape_of_kind context kind columns ≡ Ok after
+    → Shows (write_kind context.text node kind writing) after
+kind_shows context node (Filter condition) columns after writing shows is = sym (condition_shows context condition columns after is) ∙ shows
+kind_shows context node (Eval fields) columns after writing shows is = fields_show context fields columns after writing shows is
+kind_shows context node (Keep patterns) columns after writing shows is =
+    sym (unmet_is (first_unmet (names_of columns) patterns) _ after is)
+    ∙ ap (λ (these : List Column). at_places (keep_places (names_of these) patterns) these) shows
+    ∙ columns-kept patterns writing.visible
+kind_shows context node (Drop patterns) columns after writing shows is =
+    sym (unmet_is (first_unmet (names_of columns) patterns) _ after is)
+    ∙ ap (λ (these : List Column). at_places (drop_places (names_of these) patterns) these) shows
+    ∙ columns-left patterns writing.visible
+kind_shows context node (Rename pairs) columns after writing shows is =
+    sym (missing_is (first_missing (names_of columns) pairs) _ after is)
+    ∙ ap (λ (these : List Column). renamed_by column_as (renamings (names_of these) pairs) these) shows
+    ∙ columns-renamed pairs writing.visible
+kind_shows context node (Limit count) columns after writing shows is = sym (ok_is is) ∙ shows
+kind_shows context node (Sort keys) columns after writing shows is = sym (ok_is is) ∙ shows
+kind_shows context node (Expand column) columns after writing shows is = sym (ok_is is) ∙ shows
+kind_shows context node (Stats fields groups) columns after writing shows is = sym (ok_is is) ∙ shows
+kind_shows context node (Dissect input pattern separator) columns after writing shows is = sym (ok_is is) ∙ shows
+kind_shows context node (Grok input pattern) columns after writing shows is = sym (ok_is is) ∙ shows
+kind_shows context node (Enrich policy on fields) columns after writing shows is = sym (ok_is is) ∙ shows
+kind_shows context node (Join table on) columns after writing shows is = sym (ok_is is) ∙ shows
+
+command_shows : (context : Context) (command : Command) (columns after : List Column) (writing : Writing) → Shows writing columns → shape_of_command context command columns ≡ Ok after
+    → Shows (write_command context.text writing command) after
+command_shows context command columns after writing shows is =
+    let found = found_of (shape_of_kind context command.kind columns) (unless_empty command.span) after is in
+    sym (empty_is command.span found.value after found.next_is) ∙ kind_shows context command.node command.kind columns found.value writing shows found.is
+
+pub commands_show : (context : Context) (commands : List Command) (columns after : List Column) (writing : Writing) → Shows writing columns → shape_of_commands context commands columns ≡ Ok after
+    → Shows (fold (write_command context.text) writing commands) after
+commands_show context [] columns after writing shows is = sym (ok_is is) ∙ shows
+commands_show context (command ∷ commands) columns after writing shows is =
+    let found = found_of (shape_of_command context command columns) (shape_of_commands context commands) after is in
+    commands_show context commands found.value after (write_command context.text writing command) (command_shows context command columns found.value writing shows found.is) found.next_is
+
+-- the source
+pub source_shows : (context : Context) (command : SourceCommand) (after : List Column) → shape_of_source context command ≡ Ok after → Shows (write_source context.text context.catalog command) after
+source_shows context (Tables node span names) after is =
+    let found = found_of (columns_of_tables context.catalog.tables names) (unless_empty span) after is in
+    sym (empty_is span found.value after found.next_is)
+    ∙ sym (columns_of-numbered 0 found.value)
+    ∙ ap (λ (these : Shape). columns_of (writing_of_columns (columns_or_none these)).visible) (sym found.is)
+source_shows context (OneRow node span fields) after is = fields_show context fields [] after (writing_of_columns []) refl is

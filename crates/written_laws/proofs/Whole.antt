@@ -1,0 +1,70 @@
+-- The plan that a query is written as means what the query means.
+use Rattle.std.proofs.Common.{◌≡◌, ℕ, List, map, Ok, ap, sym, ◌∙◌}
+use Rattle.std.proofs.lemmas.List.{append-nil}
+use Rattle.esql_types.specs.declared.names.Column.{Column}
+use Rattle.esql_ast.specs.declared.query.Query.{Query}
+use Rattle.esql_plan.specs.declared.catalog.Catalog.{Catalog}
+use Rattle.esql_plan.specs.Values.{NumberedRow}
+use Rattle.plan_semantics.specs.Tables.{TableHeld, catalog_tables, source_rows}
+use Rattle.plan_semantics.specs.Steps.{rows_after}
+use Rattle.plan_semantics.specs.Agrees.{Agrees}
+use Rattle.plan_semantics.specs.Plans.{columns_of, shown_row, plan_means}
+use Rattle.plan_semantics.proofs.Agreeing.{Agrees-same}
+use Rattle.row_semantics.specs.Regulars.{is_accepted}
+use Rattle.query_semantics.specs.Commands.{cells_of}
+use Rattle.query_semantics.specs.Cuts.{last_count}
+use Rattle.query_semantics.specs.Meaning.{meaning_of, shown_under}
+use Rattle.query_semantics.specs.Shapes.{Context, shape_of, shape_of_source, shape_of_commands}
+use Rattle.query_semantics.specs.Written.{Writing, source_in_plan, write_source, writing_of, written_of}
+use Rattle.written_laws.specs.Named.{named_row}
+use Rattle.written_laws.proofs.Squares.{map_map, map_same}
+use Rattle.written_laws.proofs.Named.{cells_of-named}
+use Rattle.written_laws.proofs.Kinded.{found_of}
+use Rattle.written_laws.proofs.Commands.{commands_stand, limit_stands}
+use Rattle.written_laws.proofs.Sources.{source_stands}
+use Rattle.written_laws.proofs.Shown.{source_shows, commands_show}
+
+-- the rows that the source of the written plan gives
+abbrev pub start_of : List TableHeld → Catalog → Query → List NumberedRow
+start_of tables catalog query = source_rows tables (source_in_plan catalog query.source)
+
+-- the rows and the failures; a broken rule makes no difference here
+pub rows_are : (text : List ℕ) (tables : List TableHeld) (catalog : Catalog) (query : Query) → catalog.tables ≡ catalog_tables tables
+    → (meaning_of text tables query).rows ≡ map (named_row (writing_of text catalog query).visible) (rows_after (writing_of text catalog query).steps (start_of tables catalog query))
+rows_are text tables catalog query is =
+    let start : List NumberedRow = start_of tables catalog query in
+    let stand = commands_stand text start query.commands _ _ _ (source_stands text tables catalog query.source is) in
+    (limit_stands start _ _ _ stand text (record { 0 = 0 }) (last_count query)).rows_are
+
+pub failures_are : (text : List ℕ) (tables : List TableHeld) (catalog : Catalog) (query : Query) → catalog.tables ≡ catalog_tables tables
+    → (meaning_of text tables query).failures ≡ (plan_means (written_of text catalog query).plan tables).failures
+failures_are text tables catalog query is =
+    let start : List NumberedRow = start_of tables catalog query in
+    let stand = commands_stand text start query.commands _ _ _ (source_stands text tables catalog query.source is) in
+    sym (append-nil (meaning_of text tables query).failures) ∙ (limit_stands start _ _ _ stand text (record { 0 = 0 }) (last_count query)).failures_are
+
+-- the columns, where no rule is broken
+pub columns_are : (text : List ℕ) (catalog : Catalog) (query : Query) (columns : List Column) → shape_of text catalog query ≡ Ok columns
+    → columns ≡ columns_of (written_of text catalog query).plan.output
+columns_are text catalog query columns is =
+    let context : Context = record { text = text; catalog = catalog; accepts = is_accepted } in
+    let found = found_of (shape_of_source context query.source) (shape_of_commands context query.commands) columns is in
+    commands_show context query.commands found.value columns (write_source text catalog query.source) (source_shows context query.source found.value found.is) found.next_is
+
+pub plan_is_meaning : (text : List ℕ) (tables : List TableHeld) (catalog : Catalog) (query : Query) (columns : List Column) → catalog.tables ≡ catalog_tables tables
+    → shape_of text catalog query ≡ Ok columns
+    → plan_means (written_of text catalog query).plan tables ≡ shown_under columns (meaning_of text tables query)
+plan_is_meaning text tables catalog query columns tables_are is =
+    let writing : Writing = writing_of text catalog query in
+    let after : List NumberedRow = rows_after writing.steps (start_of tables catalog query) in
+    let rows = ap (map cells_of) (rows_are text tables catalog query tables_are)
+    ∙ map_map cells_of (named_row writing.visible) after
+    ∙ map_same (λ (row : NumberedRow). cells_of (named_row writing.visible row)) (shown_row writing.visible) (cells_of-named writing.visible) after in
+    let columns_is = columns_are text catalog query columns is in
+    let failures = failures_are text tables catalog query tables_are in
+    λ i. record { columns = sym columns_is i; rows = sym rows i; failures = sym failures i }
+
+pub plan_agrees : (text : List ℕ) (tables : List TableHeld) (catalog : Catalog) (query : Query) (columns : List Column) → catalog.tables ≡ catalog_tables tables
+    → shape_of text catalog query ≡ Ok columns
+    → Agrees (plan_means (written_of text catalog query).plan tables) (shown_under columns (meaning_of text tables query))
+plan_agrees text tables catalog query columns tables_are is = Agrees-same _ _ (plan_is_meaning text tables catalog query columns tables_are is)

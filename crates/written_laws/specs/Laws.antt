@@ -1,0 +1,45 @@
+-- What the laws of written plans say.
+use Rattle.std.specs.Prelude.{◌≡◌, ℕ, List, ◌∷◌, ◌++◌, take, Ok}
+use Rattle.esql_types.specs.declared.names.Column.{Column}
+use Rattle.esql_ast.specs.declared.query.Query.{Query}
+use Rattle.esql_ast.specs.declared.query.Command.{Command}
+use Rattle.esql_ast.specs.declared.query.CommandKind.TheVariants.{Limit}
+use Rattle.esql_ast.specs.declared.query.SourceCommand.{SourceCommand}
+use Rattle.esql_plan.specs.declared.catalog.Catalog.{Catalog}
+use Rattle.plan_semantics.specs.Tables.{TableHeld, catalog_tables}
+use Rattle.plan_semantics.specs.Agrees.{Agrees}
+use Rattle.plan_semantics.specs.Plans.{plan_means}
+use Rattle.row_semantics.specs.Columns.{HaveDistinctNames}
+use Rattle.query_semantics.specs.Commands.{rows_of_commands, failures_of_commands}
+use Rattle.query_semantics.specs.Meaning.{meaning_of, AreRowsOf, shown_under, rows_of_source}
+use Rattle.query_semantics.specs.Shapes.{shape_of}
+use Rattle.query_semantics.specs.Written.{written_of}
+
+-- the tables with their rows are those of the catalog
+abbrev pub AreTablesOf : Catalog → List TableHeld → Type 0
+AreTablesOf catalog tables = catalog.tables ≡ catalog_tables tables
+
+-- a query that breaks no rule means what the plan means that it is written as
+abbrev pub PlansMeanQueries : Type 0
+PlansMeanQueries = (text : List ℕ) (catalog : Catalog) (tables : List TableHeld) (query : Query) (columns : List Column)
+    → AreTablesOf catalog tables → shape_of text catalog query ≡ Ok columns
+    → Agrees (plan_means (written_of text catalog query).plan tables) (shown_under columns (meaning_of text tables query))
+
+-- the rows of a query that breaks no rule have just the names of its columns
+abbrev pub RowsHaveTheirColumns : Type 0
+RowsHaveTheirColumns = (text : List ℕ) (catalog : Catalog) (tables : List TableHeld) (query : Query) (columns : List Column)
+    → AreTablesOf catalog tables → shape_of text catalog query ≡ Ok columns → AreRowsOf columns (meaning_of text tables query).rows
+
+-- no two columns of a query that breaks no rule have one name
+abbrev pub ColumnsDiffer : Type 0
+ColumnsDiffer = (text : List ℕ) (catalog : Catalog) (query : Query) (columns : List Column) → shape_of text catalog query ≡ Ok columns → HaveDistinctNames columns
+
+abbrev pub query_of : SourceCommand → List Command → Query
+query_of source commands = record { source = source; commands = commands; nodes = 0 }
+
+-- all failures before a LIMIT stay, whatever its count is; the commands behind it fail on the rows that it leaves
+abbrev pub LimitsKeepFailures : Type 0
+LimitsKeepFailures = (text : List ℕ) (tables : List TableHeld) (source : SourceCommand) (before : List Command) (limit : Command) (count : ℕ) (after : List Command)
+    → limit.kind ≡ Limit count
+    → (meaning_of text tables (query_of source (before ++ limit ∷ after))).failures
+    ≡ (meaning_of text tables (query_of source before)).failures ++ failures_of_commands text after (take count (rows_of_commands text before (rows_of_source text tables source)))

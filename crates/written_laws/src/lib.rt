@@ -1,0 +1,9 @@
+//! The plan that a query is written as means what the query means; the rows of a query have the columns of its shape, whose
+//! names differ; and LIMIT drops no failure.
+//!
+//! Read its specs in this order: `Named`, `Laws`.
+#![tactic(auto)]
+
+mod laws;
+
+pub use laws::{columns_differ, limits_keep_failures, plans_mean_queries, rows_have_their_columns};
