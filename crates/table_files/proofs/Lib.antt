@@ -5,3 +5,4 @@ mod OneCatalog
 pub mod OneName
 mod Pushed
 mod Rowed
+pub mod SomeContents

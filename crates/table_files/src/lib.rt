@@ -12,6 +12,6 @@ mod tests;
 
 pub use catalog::catalog_of;
 pub use gathering::gather;
-pub use laws::{one_gathering, one_loading};
+pub use laws::{one_gathering, one_loading, some_gathering, some_halt, some_loading};
 pub use loading::load;
 pub use stop::{Stop, TableSource};
