@@ -6,3 +6,4 @@ pub mod OneName
 mod Pushed
 mod Rowed
 pub mod SomeContents
+pub mod SourceNames

@@ -6,3 +6,4 @@ pub mod Messages
 pub mod Reading
 pub mod Shapes
 pub mod Stops
+pub mod Uses
