@@ -1,4 +1,5 @@
 mod Asked
+pub mod Catalogs
 mod Gathered
 mod Named
 mod OneCatalog
