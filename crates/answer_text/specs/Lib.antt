@@ -1,4 +1,5 @@
 pub mod Cells
 pub mod Messages
+pub mod Refusals
 pub mod Txt
 pub mod Warnings

@@ -93,41 +93,45 @@ fn characters_print(rt: HostRuntime) -> Result<(), Fail> {
 
 #[test]
 fn refusals(rt: HostRuntime) -> Result<(), Fail> {
-    let text = "ROW a = 1 | EVAL b = zz";
-    let message = unknown_column(rt.alloc(), "zz")?;
-    assert_eq!(rt;
-        refusal(rt.alloc(), text, 21, message.as_str())?.as_str(),
-        "line 1:22: unknown column [zz]\n"
-    );
-    assert_eq!(rt;
-        refusal(rt.alloc(), "FROM t", 0, not_built())?.as_str(),
-        "line 1:1: command not built\n"
-    );
-    let message = unexpected_token(rt.alloc(), "+")?;
-    assert_eq!(rt;
-        refusal(rt.alloc(), "ROW a = +", 8, message.as_str())?.as_str(),
-        "line 1:9: unexpected [+]\n"
-    );
+    let text = "ROW a = 1\n| EVAL zz";
+    for (refusal, want) in [
+        (Refusal::TooLong, "query longer than 65536 bytes"),
+        (Refusal::BadCharacter, "unexpected character"),
+        (Refusal::OpenString, "text or name is not closed"),
+        (Refusal::BadEscape, "unknown escape"),
+        (Refusal::OpenComment, "comment is not closed"),
+        (Refusal::WideNumber, "number is too large"),
+        (Refusal::Unexpected, "unexpected [zz]"),
+        (Refusal::UnexpectedEnd, "unexpected end of query"),
+        (Refusal::TooDeep, "expression nested deeper than 100"),
+        (Refusal::TooMany, "more than 200 commands"),
+        (Refusal::NotBuilt, "command not built"),
+        (Refusal::UnknownTable, "unknown table [zz]"),
+        (Refusal::UnknownPolicy, "unknown policy [zz]"),
+        (Refusal::UnknownColumn, "unknown column [zz]"),
+        (Refusal::NoMatch, "no column matches [zz]"),
+        (Refusal::UnknownFunction, "unknown function [zz]"),
+        (Refusal::BadArguments, "wrong arguments in [zz]"),
+        (Refusal::BadKind, "wrong kind [zz]"),
+        (Refusal::NotBoolean, "condition is not boolean [zz]"),
+        (Refusal::NotAggregate, "not an aggregate [zz]"),
+        (Refusal::NestedAggregate, "aggregate not allowed here [zz]"),
+        (Refusal::BadDissect, "bad DISSECT pattern"),
+        (Refusal::BadGrok, "bad GROK pattern"),
+        (Refusal::BadRegex, "bad regular expression"),
+        (Refusal::EmptyResultColumns, "no columns are left"),
+        (Refusal::PatternRoom, "pattern too large"),
+    ] {
+        if let Some(span) = span_in(text, 17, 19) {
+            let line = refusal_line(rt.alloc(), text, refusal, span)?;
+            assert_eq!(rt;
+                line.as_str().strip_prefix("line 2:8: "),
+                Some(format!(in rt.alloc(); "{want}\n")?.as_str())
+            );
+        }
+    }
     assert_eq!(rt; out_of_memory(), "out of memory\n");
     assert!(rt; usage().starts_with("usage: esql [--data DIR]"));
-    Ok(())
-}
-
-#[test]
-fn messages_of_syntax(rt: HostRuntime) -> Result<(), Fail> {
-    for (message, want) in [
-        (longer_than_limit(), "query longer than 65536 bytes"),
-        (unexpected_character(), "unexpected character"),
-        (not_closed(), "text or name is not closed"),
-        (unknown_escape(), "unknown escape"),
-        (comment_not_closed(), "comment is not closed"),
-        (number_too_large(), "number is too large"),
-        (unexpected_end(), "unexpected end of query"),
-        (nested_too_deep(), "expression nested deeper than 100"),
-        (too_many_commands(), "more than 200 commands"),
-    ] {
-        assert_eq!(rt; message, want);
-    }
     Ok(())
 }
 

@@ -28,7 +28,7 @@ use Rattle.table_files.specs.Asked.{AskedToLoad}
 use Rattle.table_files.specs.Catalog.{Rows, Halt, unknown, bad, Gathers, Loads}
 use Rattle.table_files.specs.Shapes.{IsTableOf, entries_of}
 use Rattle.table_files.specs.Stops.{CalledToStop, Says, IfUnknownTable, IsSpanOf, IsSourceSpan, name_of}
-use Rattle.answer_text.specs.Messages.{no_columns}
+use Rattle.answer_text.specs.declared.refusals.Refusal.TheVariants.{EmptyResultColumns}
 use Rattle.esql_run.specs.Bytes.{Outcome, refused}
 use Rattle.esql_run.specs.From.{columns_of, rows_of, halted, shown, AnswersFrom, AskedByFrom, to_load, IsFromOutcome, not_found, without_columns, not_loaded, loaded}
 use Rattle.esql_run.specs.Made.{outcome_made}
@@ -87,7 +87,7 @@ load_halted text held after span names sources given stop (Ok answer) one same a
 load_halted text held after span names sources given stop (Err error) one same are gathers some told is = tt
 
 pub no_column : (text : List ℕ) (held : Held) (span : Span) (names : List NameAt) (sources : List TableSource) (outcome : Outcome) → length names ≡ 1
-    → Gathers held 0 names (Ok sources) → columns_of sources ≡ [] → outcome ≡ refused text span.from no_columns → AnswersFrom text held span names outcome
+    → Gathers held 0 names (Ok sources) → columns_of sources ≡ [] → outcome ≡ refused text EmptyResultColumns span → AnswersFrom text held span names outcome
 no_column text held span names sources outcome one gathers none is =
     settled text held span names outcome one (subst (IsFromOutcome held text span names) (sym is) (without_columns sources gathers none))
 

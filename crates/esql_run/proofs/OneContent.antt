@@ -7,7 +7,7 @@ use Rattle.ndjson_load.specs.Over.{BytesOf}
 use Rattle.table_files.specs.declared.stop.TableSource.{TableSource}
 use Rattle.table_files.specs.Catalog.{Halt, unknown, Rows, NamesTable, no_mapping, StandsFor, RowsOf, HasRows, Gathers, no_names, halts, halts_later, one_more, Loads, no_sources, stops, stops_later, more_rows}
 use Rattle.table_files.proofs.OneName.{IsGone, IsOneContent, one_content}
-use Rattle.answer_text.specs.Messages.{no_columns}
+use Rattle.answer_text.specs.declared.refusals.Refusal.TheVariants.{EmptyResultColumns}
 use Rattle.esql_run.specs.Bytes.{Outcome, refused}
 use Rattle.esql_run.specs.From.{columns_of, rows_of, halted, shown, AnswersFrom, IsFromOutcome, not_found, without_columns, not_loaded, loaded}
 
@@ -84,7 +84,7 @@ halted_one text span name (Err other) halt (held, named) is =
     subst (λ (h : Halt). SomeOutcome text span name (halted text h)) (sym same) (held, not_found other (halts 0 name [] other named))
 
 columnless : (text : List ℕ) (span : Span) (name : NameAt) (found : Result TableSource Halt) (sources : List TableSource) → StandsFor None 0 name found → Ok sources ≡ alone found → columns_of sources ≡ []
-    → SomeOutcome text span name (refused text span.from no_columns)
+    → SomeOutcome text span name (refused text EmptyResultColumns span)
 columnless text span name (Err halt) sources stands is none = absurd cc
 columnless text span name (Ok source) sources (held, named) is none =
     let one : sources ≡ source ∷ [] = cc in

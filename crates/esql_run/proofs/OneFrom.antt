@@ -5,7 +5,7 @@ use Rattle.esql_ast.specs.declared.query.NameAt.{NameAt}
 use Rattle.ndjson_load.specs.Over.{BytesOf}
 use Rattle.table_files.specs.declared.stop.TableSource.{TableSource}
 use Rattle.table_files.specs.Catalog.{Rows, Halt, Gathers, Loads}
-use Rattle.answer_text.specs.Messages.{no_columns}
+use Rattle.answer_text.specs.declared.refusals.Refusal.TheVariants.{EmptyResultColumns}
 use Rattle.esql_run.specs.Bytes.{Outcome, refused}
 use Rattle.esql_run.specs.From.{columns_of, rows_of, halted, shown, IsFromOutcome, not_found, without_columns, not_loaded, loaded}
 
@@ -26,7 +26,7 @@ IsLoaded held text sources outcome = (read : Result (List Rows) Halt) × Loads (
 abbrev AnswersTables : BytesOf → List ℕ → Span → Result (List TableSource) Halt → Outcome → Type 0
 AnswersTables held text span (Err halt) outcome = outcome ≡ halted text halt
 AnswersTables held text span (Ok sources) outcome =
-    ((columns_of sources ≡ []) × (outcome ≡ refused text span.from no_columns)) ⊎ ((columns_of sources ≢ []) × IsLoaded held text sources outcome)
+    ((columns_of sources ≡ []) × (outcome ≡ refused text EmptyResultColumns span)) ⊎ ((columns_of sources ≢ []) × IsLoaded held text sources outcome)
 
 tables_of : (held : BytesOf) (text : List ℕ) (span : Span) (names : List NameAt) (outcome : Outcome) → IsFromOutcome (Some held) text span names outcome
     → (gathered : Result (List TableSource) Halt) × Gathers (Some held) 0 names gathered × AnswersTables held text span gathered outcome

@@ -3,57 +3,59 @@ use Rattle.std.proofs.Common.{true, false, Bool, ◌≡◌, inl, inr, ℕ, ◌<�
 use Rattle.esql_lex.specs.declared.error.LexError.{LexError}
 use Rattle.esql_lex.specs.declared.error.LexError.TheVariants as fault
 use Rattle.esql_lex.specs.declared.token.Token.{Token}
-use Rattle.esql_lex.specs.Tokens.{Tokens, LexFault, slice_of}
+use Rattle.esql_lex.specs.Tokens.{Tokens, LexFault}
 use Rattle.esql_ast.specs.declared.query.Query.{Query}
 use Rattle.esql_parse.specs.declared.error.ParseError.{ParseError}
 use Rattle.esql_parse.specs.declared.error.ParseError.TheVariants.{Unexpected, TooDeep, TooMany, Memory}
 use Rattle.esql_parse.specs.Spells.{Spells, Refuses}
-use Rattle.answer_text.specs.Messages.{longer_than_limit, unexpected_character, not_closed, unknown_escape, comment_not_closed, number_too_large, nested_too_deep, too_many_commands}
+use Rattle.esql_types.specs.declared.places.Span.{Span}
+use Rattle.answer_text.specs.declared.refusals.Refusal.{Refusal}
+use Rattle.answer_text.specs.declared.refusals.Refusal.TheVariants as refusal
 use Rattle.esql_io.specs.Files.{Held}
 use Rattle.ndjson_load.specs.Over.{BytesOf}
 use Rattle.esql_run.specs.Bytes.{Outcome, refused}
 use Rattle.esql_run.specs.From.{is_one_table, names_of, span_of}
 use Rattle.esql_run.specs.Outcome.{IsQuery, IsAnswer, IsOutcome, AnswersBy, AnswersQuery, ReadsKnown, outcome_of}
-use Rattle.esql_run.specs.Unread.{IsNoQuery, too_long, bad_character, open_string, bad_escape, open_comment, wide_number, unexpected, too_deep, too_many, HasFault, HasRefusal, unexpected_kind}
+use Rattle.esql_run.specs.Unread.{IsNoQuery, too_long, bad_character, open_string, bad_escape, open_comment, wide_number, unexpected, too_deep, too_many, HasFault, HasRefusal, unexpected_kind, point_at}
 use Rattle.esql_run.proofs.OneFrom.{TableLaws, one_from}
 
--- where a fault stands, and what is said of it
-abbrev fault_at : LexError → ℕ
-fault_at (fault.BadCharacter at) = at
-fault_at (fault.OpenString at) = at
-fault_at (fault.BadEscape at) = at
-fault_at (fault.OpenComment at) = at
-fault_at (fault.WideNumber at) = at
-fault_at (fault.Memory error) = 0
+-- where a fault stands, and how it is refused
+abbrev fault_at : LexError → Span
+fault_at (fault.BadCharacter at) = point_at at
+fault_at (fault.OpenString at) = point_at at
+fault_at (fault.BadEscape at) = point_at at
+fault_at (fault.OpenComment at) = point_at at
+fault_at (fault.WideNumber at) = point_at at
+fault_at (fault.Memory error) = point_at 0
 
-abbrev fault_said : LexError → List ℕ
-fault_said (fault.BadCharacter at) = unexpected_character
-fault_said (fault.OpenString at) = not_closed
-fault_said (fault.BadEscape at) = unknown_escape
-fault_said (fault.OpenComment at) = comment_not_closed
-fault_said (fault.WideNumber at) = number_too_large
-fault_said (fault.Memory error) = []
+abbrev fault_refusal : LexError → Refusal
+fault_refusal (fault.BadCharacter at) = refusal.BadCharacter
+fault_refusal (fault.OpenString at) = refusal.OpenString
+fault_refusal (fault.BadEscape at) = refusal.BadEscape
+fault_refusal (fault.OpenComment at) = refusal.OpenComment
+fault_refusal (fault.WideNumber at) = refusal.WideNumber
+fault_refusal (fault.Memory error) = refusal.TooLong
 
--- the token that a refusal names, and what is said of it
+-- the token that a refusal names, and how it is refused
 abbrev number_of : ParseError → ℕ
 number_of (Unexpected number) = number
 number_of (TooDeep number) = number
 number_of (TooMany number) = number
 number_of (Memory error) = 0
 
-abbrev refusal_said : List ℕ → Token → ParseError → List ℕ
-refusal_said text token (Unexpected number) = unexpected_kind token.kind (slice_of text token)
-refusal_said text token (TooDeep number) = nested_too_deep
-refusal_said text token (TooMany number) = too_many_commands
-refusal_said text token (Memory error) = []
+abbrev token_refusal : Token → ParseError → Refusal
+token_refusal token (Unexpected number) = unexpected_kind token.kind
+token_refusal token (TooDeep number) = refusal.TooDeep
+token_refusal token (TooMany number) = refusal.TooMany
+token_refusal token (Memory error) = refusal.TooLong
 
 -- the three ways in which a text is no query
-data Reason (text : List ℕ) (at : ℕ) (message : List ℕ) : Type 0 where
-  by_length : 65536 < length text → at ≡ 0 → message ≡ longer_than_limit → Reason text at message
-  by_fault : (error : LexError) → HasFault text error → at ≡ fault_at error → message ≡ fault_said error → Reason text at message
-  by_refusal : (error : ParseError) (token : Token) → HasRefusal text error (number_of error) token → at ≡ token.span.from → message ≡ refusal_said text token error → Reason text at message
+data Reason (text : List ℕ) (why : Refusal) (span : Span) : Type 0 where
+  by_length : 65536 < length text → why ≡ refusal.TooLong → span ≡ point_at 0 → Reason text why span
+  by_fault : (error : LexError) → HasFault text error → why ≡ fault_refusal error → span ≡ fault_at error → Reason text why span
+  by_refusal : (error : ParseError) (token : Token) → HasRefusal text error (number_of error) token → why ≡ token_refusal token error → span ≡ token.span → Reason text why span
 
-reason : {text : List ℕ} {at : ℕ} {message : List ℕ} → IsNoQuery text at message → Reason text at message
+reason : {text : List ℕ} {why : Refusal} {span : Span} → IsNoQuery text why span → Reason text why span
 reason (too_long long) = by_length long refl refl
 reason (bad_character at has) = by_fault (fault.BadCharacter at) has refl refl
 reason (open_string at has) = by_fault (fault.OpenString at) has refl refl
@@ -77,8 +79,8 @@ pub record Laws : Type 0 where
 some_same : {A : Type 0} {a b : A} → Some a ≡ Some b → a ≡ b
 some_same e = cc
 
-abbrev Same : ℕ → List ℕ → ℕ → List ℕ → Type 0
-Same at message place words = (at ≡ place) × (message ≡ words)
+abbrev Same : Refusal → Span → Refusal → Span → Type 0
+Same why span other place = (why ≡ other) × (span ≡ place)
 
 -- the same refusal of the same tokens names the same token
 same_token : (laws : Laws) (text : List ℕ) (e f : ParseError) (a b : Token) → HasRefusal text e (number_of e) a → HasRefusal text f (number_of f) b → (e ≡ f) × (a ≡ b)
@@ -88,26 +90,26 @@ same_token laws text e f a b one other =
     let stands : slice_get one.tokens (number_of e) ≡ slice_get other.tokens (number_of f) = ap (λ ts. slice_get ts (number_of e)) tokens ∙ ap (λ x. slice_get other.tokens (number_of x)) error in
     (error, some_same (sym one.stands ∙ stands ∙ other.stands))
 
-one_reason : (laws : Laws) (text : List ℕ) (at place : ℕ) (message words : List ℕ) → Reason text at message → Reason text place words → Same at message place words
-one_reason laws text at place message words (by_length _ a b) (by_length _ c d) = (a ∙ sym c, b ∙ sym d)
-one_reason laws text at place message words (by_length long a b) (by_fault f has c d) = let short = has.short in absurd (omega arith)
-one_reason laws text at place message words (by_length long a b) (by_refusal f t has c d) = let short = has.short in absurd (omega arith)
-one_reason laws text at place message words (by_fault e has a b) (by_length long c d) = let short = has.short in absurd (omega arith)
-one_reason laws text at place message words (by_fault e has a b) (by_fault f other c d) =
+one_reason : (laws : Laws) (text : List ℕ) (why how : Refusal) (span place : Span) → Reason text why span → Reason text how place → Same why span how place
+one_reason laws text why how span place (by_length _ a b) (by_length _ c d) = (a ∙ sym c, b ∙ sym d)
+one_reason laws text why how span place (by_length long a b) (by_fault f has c d) = let short = has.short in absurd (omega arith)
+one_reason laws text why how span place (by_length long a b) (by_refusal f t has c d) = let short = has.short in absurd (omega arith)
+one_reason laws text why how span place (by_fault e has a b) (by_length long c d) = let short = has.short in absurd (omega arith)
+one_reason laws text why how span place (by_fault e has a b) (by_fault f other c d) =
     let same : e ≡ f = laws.one_fault text e f has.fault other.fault in
-    (a ∙ ap fault_at same ∙ sym c, b ∙ ap fault_said same ∙ sym d)
-one_reason laws text at place message words (by_fault e has a b) (by_refusal f t other c d) = absurd (laws.not_both text other.tokens e other.lexed has.fault)
-one_reason laws text at place message words (by_refusal e t has a b) (by_length long c d) = let short = has.short in absurd (omega arith)
-one_reason laws text at place message words (by_refusal e t has a b) (by_fault f other c d) = absurd (laws.not_both text has.tokens f has.lexed other.fault)
-one_reason laws text at place message words (by_refusal e t has a b) (by_refusal f u other c d) =
+    (a ∙ ap fault_refusal same ∙ sym c, b ∙ ap fault_at same ∙ sym d)
+one_reason laws text why how span place (by_fault e has a b) (by_refusal f t other c d) = absurd (laws.not_both text other.tokens e other.lexed has.fault)
+one_reason laws text why how span place (by_refusal e t has a b) (by_length long c d) = let short = has.short in absurd (omega arith)
+one_reason laws text why how span place (by_refusal e t has a b) (by_fault f other c d) = absurd (laws.not_both text has.tokens f has.lexed other.fault)
+one_reason laws text why how span place (by_refusal e t has a b) (by_refusal f u other c d) =
     let same = same_token laws text e f t u has other in
-    (a ∙ ap (λ (x : Token). x.span.from) same.1 ∙ sym c, b ∙ ap (λ (x : Token). refusal_said text x e) same.1 ∙ ap (refusal_said text u) same.0 ∙ sym d)
+    (a ∙ ap (λ (x : Token). token_refusal x e) same.1 ∙ ap (token_refusal u) same.0 ∙ sym c, b ∙ ap (λ (x : Token). x.span) same.1 ∙ sym d)
 
 -- what has a query is refused nowhere
-no_reason : (laws : Laws) (text : List ℕ) (query : Query) (at : ℕ) (message : List ℕ) → IsQuery text query → Reason text at message → ⊥
-no_reason laws text query at message is (by_length long a b) = let short = is.short in omega arith
-no_reason laws text query at message is (by_fault e has a b) = laws.not_both text is.tokens e is.lexed has.fault
-no_reason laws text query at message is (by_refusal e t has a b) =
+no_reason : (laws : Laws) (text : List ℕ) (query : Query) (why : Refusal) (span : Span) → IsQuery text query → Reason text why span → ⊥
+no_reason laws text query why span is (by_length long a b) = let short = is.short in omega arith
+no_reason laws text query why span is (by_fault e has a b) = laws.not_both text is.tokens e is.lexed has.fault
+no_reason laws text query why span is (by_refusal e t has a b) =
     let tokens : is.tokens ≡ has.tokens = laws.one_list text is.tokens has.tokens is.lexed has.lexed in
     laws.no_refusal text has.tokens query e (subst (λ ts. Spells text ts query) tokens is.spelled) has.refuses
 
@@ -135,11 +137,11 @@ same_query laws text query other is was =
 pub one_answer : (laws : Laws) (text : List ℕ) (held : Held) (outcome other : Outcome) → ReadsKnown (text ∷ []) held → IsAnswer text held outcome → IsAnswer text held other → outcome ≡ other
 one_answer laws text held outcome other known (inl (query, is, a)) (inl (query2, was, b)) =
     same_answer laws text held query outcome other known is a (subst (λ (q : Query). AnswersQuery text held q other) (sym (same_query laws text query query2 is was)) b)
-one_answer laws text held outcome other known (inl (query, is, a)) (inr (at, message, none, f)) = absurd (no_reason laws text query at message is (reason none))
-one_answer laws text held outcome other known (inr (at, message, none, e)) (inl (query, was, b)) = absurd (no_reason laws text query at message was (reason none))
-one_answer laws text held outcome other known (inr (at, message, none, e)) (inr (place, words, also, f)) =
-    let same = one_reason laws text at place message words (reason none) (reason also) in
-    e ∙ ap (λ (p : ℕ). refused text p message) same.0 ∙ ap (refused text place) same.1 ∙ sym f
+one_answer laws text held outcome other known (inl (query, is, a)) (inr (why, span, none, f)) = absurd (no_reason laws text query why span is (reason none))
+one_answer laws text held outcome other known (inr (why, span, none, e)) (inl (query, was, b)) = absurd (no_reason laws text query why span was (reason none))
+one_answer laws text held outcome other known (inr (why, span, none, e)) (inr (how, place, also, f)) =
+    let same = one_reason laws text why how span place (reason none) (reason also) in
+    e ∙ ap (λ (r : Refusal). refused text r span) same.0 ∙ ap (refused text how) same.1 ∙ sym f
 
 pub one_outcome : (laws : Laws) (words : List (List ℕ)) (held : Held) (outcome other : Outcome) → ReadsKnown words held → IsOutcome words held outcome → IsOutcome words held other → outcome ≡ other
 one_outcome laws [] held outcome other known e f = e ∙ sym f

@@ -1,6 +1,8 @@
 -- A status, and the bytes of the output and of the error stream.
 use Rattle.std.specs.Prelude.{ℕ, List, []}
-use Rattle.answer_text.specs.Messages.{refused_line}
+use Rattle.esql_types.specs.declared.places.Span.{Span}
+use Rattle.answer_text.specs.declared.refusals.Refusal.{Refusal}
+use Rattle.answer_text.specs.Refusals.{refusal_line}
 use Rattle.esql_run.specs.declared.status.Status.{Status}
 use Rattle.esql_run.specs.declared.status.Status.TheVariants.{Refused}
 
@@ -9,6 +11,6 @@ pub record Outcome : Type 0 where
   pub out : List ℕ
   pub err : List ℕ
 
--- a refusal at an offset of the text
-abbrev pub refused : List ℕ → ℕ → List ℕ → Outcome
-refused text at message = record { status = Refused; out = []; err = refused_line text at message }
+-- the refusal of a part of the text
+abbrev pub refused : List ℕ → Refusal → Span → Outcome
+refused text refusal span = record { status = Refused; out = []; err = refusal_line text refusal span }

@@ -3,7 +3,6 @@ use Rattle.std.specs.Prelude.{◌≡◌, ◌≢◌, ℕ, nat_eq, Bool, ◌&&◌,
 use Rattle.esql_io.specs.Files.{Held}
 use Rattle.esql_types.specs.declared.places.Span.{Span}
 use Rattle.esql_types.specs.declared.names.Column.{Column}
-use Rattle.esql_types.specs.Spans.{text_at}
 use Rattle.esql_ast.specs.declared.query.NameAt.{NameAt}
 use Rattle.esql_ast.specs.declared.query.Query.{Query}
 use Rattle.esql_ast.specs.declared.query.SourceCommand.{SourceCommand}
@@ -14,7 +13,8 @@ use Rattle.table_files.specs.Asked.{AskedToFind, AskedToLoad}
 use Rattle.table_files.specs.declared.stop.TableSource.{TableSource}
 use Rattle.table_files.specs.Catalog.{Rows, Halt, unknown, bad, Gathers, Loads}
 use Rattle.answer_text.specs.Txt.{shown_txt}
-use Rattle.answer_text.specs.Messages.{unknown_table, no_columns, bad_data_line}
+use Rattle.answer_text.specs.declared.refusals.Refusal.TheVariants.{UnknownTable, EmptyResultColumns}
+use Rattle.answer_text.specs.Messages.{bad_data_line}
 use Rattle.esql_run.specs.Bytes.{Outcome, refused}
 use Rattle.esql_run.specs.declared.status.Status.TheVariants.{Done, BadData}
 
@@ -42,7 +42,7 @@ rows_of (rows ∷ tables) = rows
 
 -- a name that is no table's is refused where it stands, and a file that is bad is named
 abbrev pub halted : List ℕ → Halt → Outcome
-halted text (unknown span) = refused text span.from (unknown_table (text_at text span))
+halted text (unknown span) = refused text UnknownTable span
 halted text (bad message) = record { status = BadData; out = []; err = bad_data_line message }
 
 -- the first 1,000 rows of a table
@@ -52,7 +52,7 @@ shown columns rows = record { status = Done; out = shown_txt columns (take 1000 
 -- The mapping of the table is read; a table without columns is refused at the command; then its rows are read.
 pub data IsFromOutcome (held : Held) (text : List ℕ) (span : Span) (names : List NameAt) : Outcome → Type 0 where
   not_found : (halt : Halt) → Gathers held 0 names (Err halt) → IsFromOutcome held text span names (halted text halt)
-  without_columns : (sources : List TableSource) → Gathers held 0 names (Ok sources) → columns_of sources ≡ [] → IsFromOutcome held text span names (refused text span.from no_columns)
+  without_columns : (sources : List TableSource) → Gathers held 0 names (Ok sources) → columns_of sources ≡ [] → IsFromOutcome held text span names (refused text EmptyResultColumns span)
   not_loaded : (sources : List TableSource) (halt : Halt) → Gathers held 0 names (Ok sources) → columns_of sources ≢ [] → Loads held sources (Err halt) → IsFromOutcome held text span names (halted text halt)
   loaded : (sources : List TableSource) (tables : List Rows) → Gathers held 0 names (Ok sources) → columns_of sources ≢ [] → Loads held sources (Ok tables)
       → IsFromOutcome held text span names (shown (columns_of sources) (rows_of tables))

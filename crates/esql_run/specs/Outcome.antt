@@ -3,11 +3,10 @@ use Rattle.std.specs.Prelude.{◌≡◌, Bool, true, false, ◌⊎◌, ℕ, ◌�
 use Rattle.esql_io.specs.Files.{Held}
 use Rattle.esql_types.specs.declared.places.Span.{Span}
 use Rattle.esql_types.specs.declared.names.Column.{Column}
-use Rattle.esql_types.specs.Spans.{text_at}
 use Rattle.esql_lex.specs.declared.token.Token.{Token}
 use Rattle.esql_lex.specs.Tokens.{Tokens}
 use Rattle.esql_ast.specs.declared.query.Query.{Query}
-use Rattle.esql_ast.specs.Nodes.{nodes_of}
+use Rattle.esql_ast.specs.Nodes.{warned_nodes_of}
 use Rattle.esql_parse.specs.Spells.{Spells}
 use Rattle.row_queries.specs.declared.table.Ran.{Ran}
 use Rattle.row_queries.specs.Tables.{cells_of}
@@ -16,7 +15,9 @@ use Rattle.row_queries.specs.Shapes.{shape_of}
 use Rattle.row_queries.specs.Unbuilt.{unbuilt_of}
 use Rattle.answer_text.specs.Txt.{shown_txt}
 use Rattle.answer_text.specs.Warnings.{warned}
-use Rattle.answer_text.specs.Messages.{unknown_column, not_built, usage}
+use Rattle.answer_text.specs.declared.refusals.Refusal.{Refusal}
+use Rattle.answer_text.specs.declared.refusals.Refusal.TheVariants.{UnknownColumn, NotBuilt}
+use Rattle.answer_text.specs.Messages.{usage}
 use Rattle.esql_run.specs.Bytes.{Outcome, refused}
 use Rattle.esql_run.specs.From.{is_one_table, names_of, span_of, AnswersFrom, AskedByFrom}
 use Rattle.esql_run.specs.Unread.{IsNoQuery}
@@ -35,18 +36,18 @@ abbrev pub done : List ℕ → Query → Ran → Outcome
 done text query ran = record {
   status = Done;
   out = shown_txt ran.table.columns (map cells_of ran.table.rows);
-  err = warned text (nodes_of query) ran.failures;
+  err = warned text (warned_nodes_of query) ran.failures;
 }
 
 -- the first broken rule of a query is refused where it stands; a query without one is answered with what it means
 abbrev pub outcome_built : List ℕ → Query → Result (List Column) Span → Outcome
 outcome_built text query (Ok columns) = done text query (meaning_of text query)
-outcome_built text query (Err span) = refused text span.from (unknown_column (text_at text span))
+outcome_built text query (Err span) = refused text UnknownColumn span
 
 -- the first form that is not built is refused where it stands
 abbrev pub outcome_by : List ℕ → Query → List Span → Outcome
 outcome_by text query [] = outcome_built text query (shape_of text query)
-outcome_by text query (span ∷ spans) = refused text span.from not_built
+outcome_by text query (span ∷ spans) = refused text NotBuilt span
 
 abbrev pub outcome_of : List ℕ → Query → Outcome
 outcome_of text query = outcome_by text query (unbuilt_of query)
@@ -63,7 +64,7 @@ AnswersQuery text held query outcome = AnswersBy (is_one_table query) text held 
 abbrev pub IsAnswer : List ℕ → Held → Outcome → Type 0
 IsAnswer text held outcome =
     ((query : Query) × IsQuery text query × AnswersQuery text held query outcome)
-    ⊎ ((at : ℕ) × (message : List ℕ) × IsNoQuery text at message × (outcome ≡ refused text at message))
+    ⊎ ((refusal : Refusal) × (span : Span) × IsNoQuery text refusal span × (outcome ≡ refused text refusal span))
 
 abbrev pub wrong_words : Outcome
 wrong_words = record { status = Usage; out = []; err = usage }

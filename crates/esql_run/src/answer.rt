@@ -14,10 +14,10 @@ use crate::from::answer_from;
 use crate::query::{Unread, read_query};
 use crate::rendered::{Rendered, Unanswered, refuse};
 use crate::rows::cells_of_rows;
-use answer_text::{not_built, unknown_column, usage, warnings};
+use answer_text::{Refusal, usage, warnings};
 use esql_ast::{Query, SourceCommand, warned_nodes_of};
 use esql_io::Files;
-use esql_types::{Text, text_at};
+use esql_types::Text;
 use row_queries::{AnswerError, Ran, Table, first_unbuilt, meaning_of};
 use std::alloc::{AllocError, Global};
 use table_out::txt;
@@ -55,7 +55,7 @@ fn answer_text<F: Files>(alloc: Global, text: &str, files: &mut F) -> Result<Ren
 {
     match read_query(alloc, text) {
         Ok(query) => answer_query(alloc, text, &query, files),
-        Err(Unread::Refused { at, message }) => Ok(refuse(alloc, text, at, message.as_str())?),
+        Err(Unread::Refused { refusal, span }) => Ok(refuse(alloc, text, refusal, span)?),
         Err(Unread::Memory(error)) => Err(Unanswered::Memory(error)),
     }
 }
@@ -86,7 +86,7 @@ fn answer_forms(alloc: Global, text: &str, query: &Query) -> Result<Rendered, Al
     ensures status { IfOk result (λ answer. IsTold answer.status) }
 {
     match first_unbuilt(query) {
-        Some(span) => refuse(alloc, text, span.from, not_built()),
+        Some(span) => refuse(alloc, text, Refusal::NotBuilt, span),
         None => answer_built(alloc, text, query),
     }
 }
@@ -100,8 +100,7 @@ fn answer_built(alloc: Global, text: &str, query: &Query) -> Result<Rendered, Al
     match meaning_of(alloc, text, query) {
         Ok(ran) => show(alloc, text, query, ran),
         Err(AnswerError::UnknownColumn { span }) => {
-            let message = unknown_column(alloc, text_at(text, span))?;
-            refuse(alloc, text, span.from, message.as_str())
+            refuse(alloc, text, Refusal::UnknownColumn, span)
         }
         Err(AnswerError::Memory(error)) => Err(error),
     }

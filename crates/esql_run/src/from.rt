@@ -8,10 +8,10 @@ ghost use Rattle.esql_run.specs.Stopped.{CalledToAnswer, IsStopped, StopFits};
 
 use crate::Status;
 use crate::rendered::{Rendered, Unanswered, refuse};
-use answer_text::{bad_data_line, no_columns, unknown_table};
+use answer_text::{Refusal, bad_data_line};
 use esql_ast::NameAt;
 use esql_io::Files;
-use esql_types::{Cell, Column, Seq, Span, Text, text_at};
+use esql_types::{Cell, Column, Seq, Span, Text};
 use ndjson_load::Table;
 use std::alloc::{AllocError, Global};
 use table_files::{Stop, TableSource, gather, load};
@@ -41,7 +41,7 @@ pub(crate) fn answer_from<F: Files>(
     };
     let columns = columns_of(alloc, sources.as_slice())?;
     if columns.len() == 0 {
-        return Ok(refuse(alloc, text, span.from, no_columns())?);
+        return Ok(refuse(alloc, text, Refusal::EmptyResultColumns, span)?);
     }
     match load(alloc, files, sources.as_slice()) {
         Ok(tables) => Ok(show(alloc, &columns, tables.as_slice())?),
@@ -55,10 +55,7 @@ fn stopped(alloc: Global, text: &str, stop: Stop) -> Result<Rendered, Unanswered
     ensures status { IfOk result (λ answer. IsTold answer.status) }
 {
     match stop {
-        Stop::UnknownTable { span } => {
-            let message = unknown_table(alloc, text_at(text, span))?;
-            Ok(refuse(alloc, text, span.from, message.as_str())?)
-        }
+        Stop::UnknownTable { span } => Ok(refuse(alloc, text, Refusal::UnknownTable, span)?),
         Stop::BadData { message } => Ok(bad_data(alloc, message.as_str())?),
         Stop::ReadFault { file } => Err(Unanswered::ReadFault { file }),
         Stop::Memory(error) => Err(Unanswered::Memory(error)),

@@ -1,18 +1,15 @@
 ghost use Rattle.std.specs.Prelude.{◌≡◌, ◌≤◌, length, IfOk, IfErr, MatchResult};
-ghost use Rattle.esql_types.specs.Spans.{SpanFits};
 ghost use Rattle.esql_ast.specs.Fits.{QueryFits};
-ghost use Rattle.esql_lex.specs.Tokens.{FitsText, Tokens, slice_of};
+ghost use Rattle.esql_lex.specs.Tokens.{FitsText, Tokens};
+ghost use Rattle.esql_run.specs.declared.query.Unread.TheVariants.{Refused};
 ghost use Rattle.esql_run.specs.Outcome.{IsQuery};
-ghost use Rattle.esql_run.specs.Unread.{IsUnread, IsRefusedWith, unexpected_kind};
+ghost use Rattle.esql_run.specs.Unread.{IsUnread, point_at, unexpected_kind};
 
-use answer_text::{
-    comment_not_closed, longer_than_limit, nested_too_deep, not_closed, number_too_large,
-    too_many_commands, unexpected_character, unexpected_end, unexpected_token, unknown_escape,
-};
+use answer_text::Refusal;
 use esql_ast::Query;
 use esql_lex::{LexError, Token, TokenKind, lex};
 use esql_parse::{ParseError, parse};
-use esql_types::{Seq, Text, text_at};
+use esql_types::{Seq, Span};
 use std::alloc::{AllocError, Global};
 
 /// The longest text of a query, in bytes.
@@ -21,8 +18,8 @@ const LONGEST_QUERY: usize = 65536;
 /// Why a text has no query.
 #[derive(Drop)]
 pub(crate) enum Unread {
-    /// The text is no query, as a message says, from a byte offset on.
-    Refused { at: u32, message: Text },
+    /// The text is no query: a part of it is refused.
+    Refused { refusal: Refusal, span: Span },
     Memory(AllocError),
 }
 
@@ -32,16 +29,25 @@ pub(crate) fn read_query(alloc: Global, text: &str) -> Result<Query, Unread>
     ensures fits { IfOk result (QueryFits text.now) }
 {
     if text.len() > LONGEST_QUERY {
-        return Err(refused(alloc, 0, longer_than_limit()));
+        return Err(refused_at(Refusal::TooLong, 0));
     }
     match lex(alloc, text) {
         Ok(tokens) => parse_tokens(alloc, text, &tokens),
-        Err(LexError::BadCharacter { at }) => Err(refused(alloc, at, unexpected_character())),
-        Err(LexError::OpenString { at }) => Err(refused(alloc, at, not_closed())),
-        Err(LexError::BadEscape { at }) => Err(refused(alloc, at, unknown_escape())),
-        Err(LexError::OpenComment { at }) => Err(refused(alloc, at, comment_not_closed())),
-        Err(LexError::WideNumber { at }) => Err(refused(alloc, at, number_too_large())),
+        Err(LexError::BadCharacter { at }) => Err(refused_at(Refusal::BadCharacter, at)),
+        Err(LexError::OpenString { at }) => Err(refused_at(Refusal::OpenString, at)),
+        Err(LexError::BadEscape { at }) => Err(refused_at(Refusal::BadEscape, at)),
+        Err(LexError::OpenComment { at }) => Err(refused_at(Refusal::OpenComment, at)),
+        Err(LexError::WideNumber { at }) => Err(refused_at(Refusal::WideNumber, at)),
         Err(LexError::Memory(error)) => Err(Unread::Memory(error)),
+    }
+}
+
+fn refused_at(refusal: Refusal, at: u32) -> Unread
+    ensures { result ≡ Refused refusal (point_at at) }
+{
+    Unread::Refused {
+        refusal,
+        span: Span { from: at, to: at },
     }
 }
 
@@ -56,41 +62,32 @@ fn parse_tokens(alloc: Global, text: &str, tokens: &Seq<Token>) -> Result<Query,
         Ok(query) => Ok(query),
         Err(ParseError::Unexpected { token }) => {
             let token = tokens.as_slice()[token as usize];
-            Err(unexpected(alloc, text, token))
+            Err(refused(unexpected_kind(token.kind), token.span))
         }
         Err(ParseError::TooDeep { token }) => {
             let token = tokens.as_slice()[token as usize];
-            Err(refused(alloc, token.span.from, nested_too_deep()))
+            Err(refused(Refusal::TooDeep, token.span))
         }
         Err(ParseError::TooMany { token }) => {
             let token = tokens.as_slice()[token as usize];
-            Err(refused(alloc, token.span.from, too_many_commands()))
+            Err(refused(Refusal::TooMany, token.span))
         }
         Err(ParseError::Memory(error)) => Err(Unread::Memory(error)),
     }
 }
 
-fn unexpected(alloc: Global, text: &str, token: Token) -> Unread
-    requires { SpanFits text.now token.span }
-    ensures { IsRefusedWith result token.span.from (unexpected_kind token.kind (slice_of text.now token)) }
+fn refused(refusal: Refusal, span: Span) -> Unread
+    ensures { result ≡ Refused refusal span }
 {
-    if token.kind == TokenKind::End {
-        return refused(alloc, token.span.from, unexpected_end());
-    }
-    match unexpected_token(alloc, text_at(text, token.span)) {
-        Ok(message) => Unread::Refused {
-            at: token.span.from,
-            message,
-        },
-        Err(error) => Unread::Memory(error),
-    }
+    Unread::Refused { refusal, span }
 }
 
-fn refused(alloc: Global, at: u32, message: &str) -> Unread
-    ensures { IsRefusedWith result at message.now }
+fn unexpected_kind(kind: TokenKind) -> Refusal
+    ensures { result ≡ unexpected_kind kind }
 {
-    match Text::from_str(alloc, message) {
-        Ok(message) => Unread::Refused { at, message },
-        Err(error) => Unread::Memory(error),
+    if kind == TokenKind::End {
+        Refusal::UnexpectedEnd
+    } else {
+        Refusal::Unexpected
     }
 }

@@ -1,11 +1,11 @@
-ghost use Rattle.std.specs.Prelude.{◌≡◌, ◌<◌, IfOk};
+ghost use Rattle.std.specs.Prelude.{◌≡◌, ◌≤◌, ◌<◌, IfOk};
 ghost use Rattle.std.specs.Str.{IsCharBoundary};
 ghost use Rattle.esql_run.specs.Bytes.{refused};
 ghost use Rattle.esql_run.specs.Made.{outcome_made};
 
 use crate::Status;
-use answer_text::refusal;
-use esql_types::Text;
+use answer_text::{Refusal, refusal_line};
+use esql_types::{Span, Text};
 use std::alloc::{AllocError, Global};
 
 /// All that will be written, rendered.
@@ -34,20 +34,22 @@ impl From<AllocError> for Unanswered {
     }
 }
 
-/// The refusal of a query at a byte offset.
+/// The refusal of a part of a query.
 pub(crate) fn refuse(
     alloc: Global,
     text: &str,
-    at: u32,
-    message: &str,
+    refusal: Refusal,
+    span: Span,
 ) -> Result<Rendered, AllocError>
-    requires short { at < 4294967295 }
-    requires boundary { IsCharBoundary text.now at }
-    ensures { IfOk result (λ answer. outcome_made answer ≡ refused text.now at message.now) }
+    requires ordered { span.from ≤ span.to }
+    requires begins { IsCharBoundary text.now span.from }
+    requires ends { IsCharBoundary text.now span.to }
+    requires short { span.from < 4294967295 }
+    ensures { IfOk result (λ answer. outcome_made answer ≡ refused text.now refusal span) }
 {
     Ok(Rendered {
         status: Status::Refused,
         out: Text::from_str(alloc, "")?,
-        err: refusal(alloc, text, at, message)?,
+        err: refusal_line(alloc, text, refusal, span)?,
     })
 }

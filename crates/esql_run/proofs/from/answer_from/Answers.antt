@@ -2,7 +2,6 @@ use Rattle.std.proofs.Common.{◌≤◌, length, List, sym, subst, ap, ◌∙◌
 use Rattle.esql_types.specs.declared.names.Column.{Column}
 use Rattle.esql_io.proofs.Calls.{none_yet, none_then}
 use Rattle.table_files.specs.Asked.{AskedToFind, AskedToLoad}
-use Rattle.esql_run.specs.Bytes.{refused}
 use Rattle.esql_run.specs.From.{columns_of, AskedByFrom, to_find}
 use Rattle.esql_run.proofs.Froms.{gather_halted, load_halted, no_column, all_loaded, empty_columns, some_columns, wide_for, shown_for, few_columns, source_fits, called_stop, asks_rows}
 use Rattle.esql_run.proofs.from.answer_from.Goals as goal
@@ -15,7 +14,7 @@ pub returns-then-len-eq0-clause-told : goal.returns-then-len-eq0-clause-told
 returns-then-len-eq0-clause-told g c =
     no_column c.args.text.now (g.F.Files.holds c.args.files.now) c.args.span c.args.names.now c.in-Ok.sources _ c.requires.one c.in-Ok.ensures.told
     (empty_columns c.in_ok-columns.columns c.as_slice.result.now c.in-Ok.sources c.len.result c.in_ok-columns.ensures c.as_slice.ensures c.len.ensures c.if-len-eq0.true)
-    (c.in_ok-refuse.ensures ∙ ap (refused c.args.text.now c.args.span.from) c.no_columns.ensures)
+    c.in_ok-refuse.ensures
 
 pub show-requires-clause-few : goal.show-requires-clause-few
 show-requires-clause-few g c =

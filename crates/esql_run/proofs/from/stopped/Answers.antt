@@ -2,4 +2,4 @@ use Rattle.std.proofs.Common.{refl}
 use Rattle.esql_run.proofs.from.stopped.Goals as goal
 
 pub returns-in_ok-refuse-in-UnknownTable-clause-stopped : goal.returns-in_ok-refuse-in-UnknownTable-clause-stopped
-returns-in_ok-refuse-in-UnknownTable-clause-stopped c = rw (c.in-UnknownTable.is, c.in_ok-refuse-in-UnknownTable.ensures, c.as_str.ensures, c.in_ok-message-in-UnknownTable.ensures, c.text_at.ensures) refl
+returns-in_ok-refuse-in-UnknownTable-clause-stopped c = rw (c.in-UnknownTable.is, c.in_ok-refuse-in-UnknownTable.ensures) refl
