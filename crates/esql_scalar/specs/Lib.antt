@@ -1,5 +1,2 @@
-pub mod Calls
-pub mod Patterns
-pub mod Results
 pub mod Rows
 pub mod Turns

@@ -1,16 +1,14 @@
-ghost use Rattle.std.specs.Prelude.{◌≡◌, ◌++◌, true, map, IfOk, OnOk};
+ghost use Rattle.std.specs.Prelude.{◌≡◌, ◌++◌, map, All, IfOk, OnOk};
 ghost use Rattle.std.specs.List.{flat_map};
 ghost use Rattle.esql_plan.specs.Fits.{ExprFits};
 ghost use Rattle.esql_plan.specs.Rules.{truth_in};
 ghost use Rattle.esql_plan.specs.Values.{value_of_typed, is_met, case_of, coalesce_of};
-ghost use Rattle.esql_scalar.specs.Rows.{row_of, AllFit, values_of};
+ghost use Rattle.esql_scalar.specs.Rows.{row_of, values_of};
 ghost use Rattle.esql_scalar.specs.Turns.{turn_after};
 
-use crate::apply::{apply, is_null};
-use crate::logic::{note_several, truth_in};
-use crate::{Branches, Call, call_of};
 use esql_plan::{TypedExpr, TypedForm};
 use esql_types::{Cell, ColId, Failure, NodeId, Seq};
+use scalar_functions::{Branches, apply, branches_of, is_null, note_several, truth_in};
 use std::alloc::{AllocError, Global};
 use text_match::Patterns;
 
@@ -38,8 +36,8 @@ pub fn evaluate(
             function,
             args,
             pattern,
-        } => match call_of(*function) {
-            Call::Branches(Branches::Case) => case_of(
+        } => match branches_of(*function) {
+            Some(Branches::Case) => case_of(
                 alloc,
                 expr.node,
                 args.as_slice(),
@@ -47,19 +45,19 @@ pub fn evaluate(
                 patterns,
                 failures,
             ),
-            Call::Branches(Branches::Coalesce) => coalesce_of(
+            Some(Branches::Coalesce) => coalesce_of(
                 alloc,
                 args.as_slice(),
                 row,
                 patterns,
                 failures,
             ),
-            Call::Plain(plain) => {
+            None => {
                 let cells = evaluate_all(alloc, args.as_slice(), row, patterns, failures)?;
                 apply(
                     alloc,
                     expr.node,
-                    plain,
+                    *function,
                     cells.as_slice(),
                     *pattern,
                     patterns,
@@ -79,7 +77,7 @@ fn evaluate_all(
     patterns: &Patterns,
     failures: &mut Seq<Failure>,
 ) -> Result<Seq<Cell>, AllocError>
-    requires { AllFit patterns.now.whole patterns.now.free args.now }
+    requires { All (ExprFits patterns.now.whole patterns.now.free) args.now }
     ensures cells { IfOk result (λ cells. cells ≡ map (λ arg. (value_of_typed arg (row_of row.now)).cell) args.now) }
     ensures failures { OnOk result (failures.new ≡
         failures.old ++ flat_map (λ arg. (value_of_typed arg (row_of row.now)).failures) args.now) }
@@ -112,7 +110,7 @@ fn case_of(
     patterns: &Patterns,
     failures: &mut Seq<Failure>,
 ) -> Result<Cell, AllocError>
-    requires { AllFit patterns.now.whole patterns.now.free args.now }
+    requires { All (ExprFits patterns.now.whole patterns.now.free) args.now }
     ensures cell { IfOk result (λ cell. cell ≡ (case_of node (values_of args.now (row_of row.now))).cell) }
     ensures failures { OnOk result (failures.new ≡ failures.old ++ (case_of node (values_of args.now (row_of row.now))).failures) }
 {
@@ -163,7 +161,7 @@ fn coalesce_of(
     patterns: &Patterns,
     failures: &mut Seq<Failure>,
 ) -> Result<Cell, AllocError>
-    requires { AllFit patterns.now.whole patterns.now.free args.now }
+    requires { All (ExprFits patterns.now.whole patterns.now.free) args.now }
     ensures cell { IfOk result (λ cell. cell ≡ (coalesce_of (values_of args.now (row_of row.now))).cell) }
     ensures failures { OnOk result (failures.new ≡ failures.old ++ (coalesce_of (values_of args.now (row_of row.now))).failures) }
 {

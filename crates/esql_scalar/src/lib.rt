@@ -1,29 +1,20 @@
 //! The value of a typed expression on a row.
 //!
-//! Read its specs in this order: `Rows`, `Calls`, `Patterns`, `Results`, `Turns`.
+//! Read its specs in this order: `Rows`, `Turns`.
 #![tactic(auto)]
 
-mod apply;
-mod binary;
-mod call;
-mod conversions;
 mod expression;
-mod list;
-mod logic;
-mod matching;
-mod numbers;
-mod result;
-mod single;
-mod singles;
 #[cfg(test)]
-mod tests;
-mod unary;
-mod values;
+mod rows;
+#[cfg(test)]
+mod tests_lists;
+#[cfg(test)]
+mod tests_logic;
+#[cfg(test)]
+mod tests_numbers;
+#[cfg(test)]
+mod tests_texts;
+#[cfg(test)]
+mod trees;
 
-use call::{
-    AloneFunction, Binary, Branches, Call, Connective, Conversion, ListFunction, Plain,
-    SingleFunction, Unary, call_of,
-};
 pub use expression::evaluate;
-use result::Outcome;
-use singles::Singles;

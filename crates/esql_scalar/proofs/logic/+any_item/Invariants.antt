@@ -1,5 +1,0 @@
-use Rattle.std.proofs.Common.{length}
-use Rattle.esql_scalar.proofs.logic.+any_item.Given as goal
-
-abbrev pub decreases-any_item : goal.decreases-any_item
-decreases-any_item l = length l.items.now
