@@ -45,6 +45,13 @@ impl Table {
         self.rows.len() as u64
     }
 
+    /// The rows in their order, each with its cells in the order of the columns.
+    pub fn as_slice(&self) -> &[Seq<Cell>]
+        ensures { result.now ≡ self.now }
+    {
+        self.rows.as_slice()
+    }
+
     /// A copy of the cell at a row and a column.
     pub fn cell(&self, row: u64, column: u32) -> Result<Cell, AllocError>
         requires { IsSome (option_and_then (λ cells. slice_get cells column) (slice_get self.now row)) }
