@@ -4,3 +4,5 @@ pub mod Cuts
 pub mod Commands
 pub mod Meaning
 pub mod Places
+pub mod Built
+pub mod Catalogs
