@@ -93,9 +93,19 @@ fn compare_directed(descending: bool, left: &Value, right: &Value) -> Ordering
     ensures { result ≡ directed_cmp descending left.now right.now }
 {
     if descending {
-        compare_values(right, left)
+        compare(right, left)
     } else {
-        compare_values(left, right)
+        compare(left, right)
+    }
+}
+
+// Two longs are compared here, since a call into another crate for each pair takes a third of the time of a sort.
+fn compare(left: &Value, right: &Value) -> Ordering
+    ensures { result ≡ value_cmp left.now right.now }
+{
+    match (left, right) {
+        (Value::Long(left), Value::Long(right)) => left.cmp(right),
+        _ => compare_values(left, right),
     }
 }
 
