@@ -93,19 +93,9 @@ fn compare_directed(descending: bool, left: &Value, right: &Value) -> Ordering
     ensures { result ≡ directed_cmp descending left.now right.now }
 {
     if descending {
-        compare(right, left)
+        compare_values(right, left)
     } else {
-        compare(left, right)
-    }
-}
-
-// Two longs are compared here, since a call into another crate for each pair takes a third of the time of a sort.
-fn compare(left: &Value, right: &Value) -> Ordering
-    ensures { result ≡ value_cmp left.now right.now }
-{
-    match (left, right) {
-        (Value::Long(left), Value::Long(right)) => left.cmp(right),
-        _ => compare_values(left, right),
+        compare_values(left, right)
     }
 }
 
