@@ -2,7 +2,7 @@
 use Rattle.std.proofs.Common.{◌≡◌, ℕ, ◌+◌, ◌<◌, ◌≤◌, Bool, true, false, List, [], ◌∷◌, length, drop, get_or, Option, Some, None, option_map, if◌then◌else◌, refl, sym, ap, ◌∙◌, add-zero, arith}
 use Rattle.std.proofs.lemmas.List.{drop_all, drop_more}
 use Rattle.esql_types.specs.declared.value.Kind.{Kind}
-use Rattle.esql_plan.specs.Signatures.{Want, OneKinds, Argument, arguments, argument_fits, with_kind, kinds_in, first_misfit}
+use Rattle.esql_plan.specs.Signatures.{Want, OneKinds, Argument, arguments, argument_fits, with_kind, first_misfit}
 
 arguments-nil : (wants : List Want) → arguments wants [] ≡ []
 arguments-nil [] = refl

@@ -1,5 +1,5 @@
 -- What is wanted from a place on.
-use Rattle.std.proofs.Common.{◌≡◌, ℕ, zero, suc, ◌+◌, ◌<◌, ◌≤◌, ◌%◌, List, [], ◌∷◌, drop, replicate, refl, arith}
+use Rattle.std.proofs.Common.{◌≡◌, ℕ, zero, suc, ◌+◌, ◌<◌, ◌≤◌, ◌%◌, ◌∷◌, drop, replicate, refl, arith}
 use Rattle.esql_plan.specs.Signatures.{a_boolean, a_value, branch_wants}
 
 pub drop-replicate : {Item : Type 0} (place count : ℕ) (item : Item) → place < count → drop place (replicate count item) ≡ item ∷ drop (suc place) (replicate count item)

@@ -1,5 +1,5 @@
 -- What the table of the program says, in the words of the signatures.
-use Rattle.std.specs.Prelude.{List, [], ◌∷◌}
+use Rattle.std.specs.Prelude.{[], ◌∷◌}
 use Rattle.esql_plan.specs.Signatures.{Want, a_boolean, a_keyword, a_number, a_value, an_ordered, like_pattern, whole_pattern, free_pattern, Parameters, these, optional, repeated, branches, Gives, always, of_values, of_numbers, Signature, OneKinds}
 use Rattle.function_signatures.specs.declared.table.Want.{Want as TableWant}
 use Rattle.function_signatures.specs.declared.table.Want.TheVariants as want

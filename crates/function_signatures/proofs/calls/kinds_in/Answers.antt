@@ -1,7 +1,5 @@
-use Rattle.std.proofs.Common.{◌≡◌, length, drop, sym, ap, ◌∙◌, [], List, refl}
-use Rattle.std.proofs.lemmas.List.{drop_all}
-use Rattle.esql_types.specs.declared.value.Kind.{Kind}
-use Rattle.esql_plan.specs.Signatures.{Argument, arguments, kinds_in, wants_of}
+use Rattle.std.proofs.Common.{length, drop, sym, ap, ◌∙◌, List}
+use Rattle.esql_plan.specs.Signatures.{Argument, kinds_in, wants_of}
 use Rattle.function_signatures.specs.Tables.{kinds_meant, parameters_meant}
 use Rattle.function_signatures.proofs.Walks.{arguments-end}
 use Rattle.function_signatures.proofs.calls.kinds_in.Goals as goal

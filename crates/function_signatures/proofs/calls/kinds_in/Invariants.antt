@@ -1,7 +1,6 @@
 use Rattle.std.proofs.Common.{◌≡◌, length, drop}
-use Rattle.esql_plan.specs.Signatures.{arguments, first_misfit, kinds_in, no_kinds, wants_of}
+use Rattle.esql_plan.specs.Signatures.{arguments, kinds_in, no_kinds, wants_of}
 use Rattle.function_signatures.specs.Tables.{kinds_meant, parameters_meant}
-use Rattle.function_signatures.proofs.Walks.{misfit_behind}
 use Rattle.function_signatures.proofs.calls.kinds_in.Given as goal
 
 abbrev pub invariant-loop-place : goal.invariant-loop-place

@@ -1,5 +1,5 @@
 use Rattle.std.proofs.Common.{◌+◌, length, drop, List, sym, ap, ◌∙◌}
-use Rattle.esql_plan.specs.Signatures.{Argument, arguments, no_kinds, wants_of, with_kind}
+use Rattle.esql_plan.specs.Signatures.{Argument, arguments, no_kinds, wants_of}
 use Rattle.function_signatures.specs.Tables.{kinds_meant, parameters_meant, want_meant}
 use Rattle.function_signatures.proofs.Walks.{arguments-end, misfit_behind, misfit-all, misfit-fits}
 use Rattle.function_signatures.proofs.calls.misfit.Goals as goal
