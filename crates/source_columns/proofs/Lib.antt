@@ -1,0 +1,4 @@
+pub mod Names
+pub mod Order
+pub mod Held
+pub mod Again

@@ -1,0 +1,4 @@
+pub mod Gathered
+pub mod Index
+pub mod Refusals
+pub mod Taken
