@@ -43,10 +43,11 @@ inserted key kind (entry ∷ entries) none =
   where
     column : Column
     column = record { name = key.now; kind = kind }
+
     by_order : (order : Ordering) (same : Bool) → is_eq order ≡ same → cond same (Some entry.1) (kind_in (columns_in entries) key.now) ≡ None
         → (kind_in (columns_in entries) key.now ≡ None → columns_in (insert_entry key_order entries key kind) ≡ with_column (columns_in entries) (record { name = key.now; kind = kind }))
         → columns_in (match_ordering order ((key, kind) ∷ entry ∷ entries) ((entry.0, kind) ∷ entries) (entry ∷ insert_entry key_order entries key kind))
-            ≡ cond same (columns_in (entry ∷ entries)) (cond (is_lt order) (record { name = key.now; kind = kind } ∷ columns_in (entry ∷ entries)) (column_of entry ∷ with_column (columns_in entries) (record { name = key.now; kind = kind })))
+        ≡ cond same (columns_in (entry ∷ entries)) (cond (is_lt order) (record { name = key.now; kind = kind } ∷ columns_in (entry ∷ entries)) (column_of entry ∷ with_column (columns_in entries) (record { name = key.now; kind = kind })))
     by_order Less false is none next = refl
     by_order Greater false is none next = ap (λ (these : List Column). column_of entry ∷ these) (next none)
     by_order Equal true is none next = absurd cc

@@ -1,4 +1,5 @@
+pub mod Again
+pub mod Held
 pub mod Names
 pub mod Order
-pub mod Held
-pub mod Again
+pub mod Walks

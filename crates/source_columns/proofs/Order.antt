@@ -107,18 +107,21 @@ kind_in-with_column (first ∷ rest) column name ordered =
         → cond found (Some first.kind) (kind_in (with_column rest column) name) ≡ kind_or (cond found (Some first.kind) (kind_in rest name)) column name
     in_first true next = refl
     in_first false next = next
+
     at_same : bytes_eq first.name column.name ≡ true → (found : Bool) → bytes_eq first.name name ≡ found
         → cond found (Some first.kind) (kind_in rest name) ≡ kind_or (cond found (Some first.kind) (kind_in rest name)) column name
     at_same is true found_is = refl
     at_same is false found_is =
         kind_or-other (kind_in rest name) column name (ap (λ (this : List ℕ). bytes_eq this name) (sym (same_names first.name column.name is)) ∙ found_is)
+
     at_front : is_lt (order_of column.name first.name) ≡ true → (here : Bool) → bytes_eq column.name name ≡ here
         → cond here (Some column.kind) (kind_in (first ∷ rest) name) ≡ kind_or (kind_in (first ∷ rest) name) column name
     at_front before true here_is =
         let none : kind_in (first ∷ rest) name ≡ None =
-          subst (λ (this : List ℕ). kind_in (first ∷ rest) this ≡ None) (same_names column.name name here_is) (none_before column.name (first ∷ rest) (before_all column.name first rest ordered before)) in
+        subst (λ (this : List ℕ). kind_in (first ∷ rest) this ≡ None) (same_names column.name name here_is) (none_before column.name (first ∷ rest) (before_all column.name first rest ordered before)) in
         subst (λ (found : Option Kind). Some column.kind ≡ kind_or found column name) (sym none) (rw here_is)
     at_front before false here_is = kind_or-other (kind_in (first ∷ rest) name) column name here_is
+
     by_same : (same : Bool) → bytes_eq first.name column.name ≡ same → (before : Bool) → is_lt (order_of column.name first.name) ≡ before
         → kind_in (with_column rest column) name ≡ kind_or (kind_in rest name) column name
         → kind_in (cond same (first ∷ rest) (cond before (column ∷ first ∷ rest) (first ∷ with_column rest column))) name ≡ kind_or (kind_in (first ∷ rest) name) column name

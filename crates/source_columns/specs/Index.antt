@@ -1,5 +1,5 @@
 -- The numbers of tables by their names.
-use Rattle.std.specs.Prelude.{◌≡◌, ℕ, List, Option, Some, None, if◌then◌else◌}
+use Rattle.std.specs.Prelude.{◌≡◌, ℕ, ◌≤◌, List, Option, Some, None, IfSome, if◌then◌else◌}
 use Rattle.std.specs.Borrow.{Bor}
 use Rattle.std.specs.BTreeMap.{BTreeMap, get_by}
 use Rattle.std.specs.Cmp.Lexicographic.{slice_cmp}
@@ -23,3 +23,7 @@ number_or None name number other = if bytes_eq name other then Some number else 
 -- the map has each name of a table, with the number of the first table that has it
 abbrev pub IsIndex : List TableShape → BTreeMap (Bor (List ℕ)) ℕ → Type 0
 IsIndex tables index = (name : List ℕ) → number_at index name ≡ number_of_table tables name
+
+-- each number fits 32 bits
+abbrev pub AreSmall : BTreeMap (Bor (List ℕ)) ℕ → Type 0
+AreSmall index = (name : List ℕ) → IfSome (number_at index name) (λ number. number ≤ 4294967295)

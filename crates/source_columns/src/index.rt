@@ -1,4 +1,6 @@
 ghost use Rattle.std.specs.Prelude.{◌≡◌, List, ℕ, IfOk, OnOk};
+ghost use Rattle.std.specs.Option.{option_copied};
+ghost use Rattle.row_semantics.specs.Sources.{table_named};
 ghost use Rattle.source_columns.specs.Index.{IsIndex, number_at, number_or};
 
 use esql_plan::TableShape;
@@ -27,4 +29,19 @@ fn add_name<'a>(index: &mut Index<'a>, name: &'a str, number: usize) -> Result<(
         index.insert(name, number)?;
     }
     Ok(())
+}
+
+/// The table of a name.
+pub fn table_of<'a>(
+    tables: &'a [TableShape],
+    index: &Index<'_>,
+    name: &str,
+) -> Option<&'a TableShape>
+    requires { IsIndex tables.now index.now }
+    ensures { option_copied result ≡ table_named tables.now name.now }
+{
+    match index.get(name) {
+        Some(number) => tables.get(*number),
+        None => None,
+    }
 }

@@ -1,6 +1,6 @@
 //! What FROM takes from the tables that it names: their numbers in the catalog, and their columns.
 //!
-//! Read its specs in this order: `Index`, `Gathered`, `Taken`, `Refusals`; what they give is said by `row_semantics.specs.Sources`.
+//! Read its specs in this order: `Index`, `Numbers`, `Gathered`, `Taken`, `Refusals`; what they give is said by `row_semantics.specs.Sources`.
 #![tactic(auto)]
 
 mod gathered;

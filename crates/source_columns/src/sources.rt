@@ -1,13 +1,14 @@
 ghost use Rattle.std.specs.Prelude.{◌≡◌, ◌≤◌, length, Ok, Some, IfOk, IfErr, OnOk};
 ghost use Rattle.row_semantics.specs.Sources as source;
 ghost use Rattle.source_columns.specs.Gathered.{columns_in, AreOrdered};
-ghost use Rattle.source_columns.specs.Index.{IsIndex};
+ghost use Rattle.source_columns.specs.Index.{IsIndex, AreSmall, number_at};
+ghost use Rattle.source_columns.specs.Numbers.{Holds};
 ghost use Rattle.source_columns.specs.Refusals.{IsRefusal};
-ghost use Rattle.source_columns.specs.Taken.{AreTaken, IsTaken};
+ghost use Rattle.source_columns.specs.Taken.{AreTaken, IsTaken, Puts};
 
 use crate::SourceError;
 use crate::gathered::{Gathered, add_columns, columns_from, has_clash};
-use crate::index::{Index, index_of};
+use crate::index::{Index, index_of, table_of};
 use esql_ast::NameAt;
 use esql_plan::{Catalog, TableShape};
 use esql_types::{Column, Seq};
@@ -56,18 +57,22 @@ fn add_source<'a>(
     match taken.get(name.name.as_str()) {
         Some(true) => Ok(()),
         Some(false) => Err(broken(name, NameRule::BadKind)),
-        None => match index.get(name.name.as_str()) {
-            Some(number) => {
-                let table = &tables[*number];
+        None => match table_of(tables, index, name.name.as_str()) {
+            Some(table) => {
                 let agrees = add_table(name, table, gathered)?;
-                taken
-                    .insert(table.name.as_str(), agrees)
-                    .map_err(AllocError::from)?;
+                note_taken(taken, table.name.as_str(), agrees)?;
                 Ok(())
             }
             None => Err(broken(name, NameRule::UnknownTable)),
         },
     }
+}
+
+fn note_taken<'a>(taken: &mut Taken<'a>, name: &'a str, agrees: bool) -> Result<(), AllocError>
+    ensures { OnOk result (Puts name.now agrees taken.old taken.new) }
+{
+    taken.insert(name, agrees)?;
+    Ok(())
 }
 
 fn broken(name: &NameAt, rule: NameRule) -> SourceError
@@ -112,14 +117,36 @@ pub fn tables_named(
     let mut seen = BTreeSet::new(alloc);
     let mut numbers = Seq::new(alloc);
     for name in names {
-        if let Some(number) = index.get(name.name.as_str()) {
-            add_number(*number as u32, &mut seen, &mut numbers)?;
-        }
+        add_named(&index, name, &mut seen, &mut numbers)?;
     }
     Ok(numbers)
 }
 
-fn add_number(number: u32, seen: &mut BTreeSet<u32>, numbers: &mut Seq<u32>) -> Result<(), AllocError>
+fn add_named(
+    index: &Index<'_>,
+    name: &NameAt,
+    seen: &mut BTreeSet<u32>,
+    numbers: &mut Seq<u32>,
+) -> Result<(), AllocError>
+    requires few { AreSmall index.now }
+    requires seen { Holds seen.old numbers.old }
+    ensures numbers { OnOk result (numbers.new ≡ source.with_number numbers.old (number_at index.now name.now.name)) }
+    ensures seen { OnOk result (Holds seen.new numbers.new) }
+{
+    match index.get(name.name.as_str()) {
+        Some(number) => add_number(*number as u32, seen, numbers),
+        None => Ok(()),
+    }
+}
+
+fn add_number(
+    number: u32,
+    seen: &mut BTreeSet<u32>,
+    numbers: &mut Seq<u32>,
+) -> Result<(), AllocError>
+    requires { Holds seen.old numbers.old }
+    ensures numbers { OnOk result (numbers.new ≡ source.with_number numbers.old (Some number)) }
+    ensures seen { OnOk result (Holds seen.new numbers.new) }
 {
     if seen.insert(number)? {
         numbers.push(number)?;
