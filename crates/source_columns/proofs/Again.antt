@@ -15,15 +15,8 @@ use Rattle.source_columns.specs.Index.{at_name}
 use Rattle.source_columns.specs.Gathered.{kind_in, AreOrdered}
 use Rattle.source_columns.specs.Taken.{IsAmong, IsTaken, AreTaken, Puts}
 use Rattle.std.proofs.lemmas.Slice.Eq.{bytes_eq-Decides}
-use Rattle.source_columns.proofs.Names.{Named, same_names}
+use Rattle.source_columns.proofs.Names.{Named, same_names, SomeIs, some_is}
 use Rattle.source_columns.proofs.Order.{ordered_with, ordered_fold, with_column-present, kind_in-with_column, kind_or, clashes-is, clashes_with}
-
-abbrev SomeIs : {A : Type 0} → Option A → Type 0
-SomeIs {A} o = (x : A) × (o ≡ Some x)
-
-some_is : {A : Type 0} (o : Option A) → IsSome o → SomeIs o
-some_is None present = absurd (true≢false (sym present))
-some_is (Some x) present = (x, refl)
 
 is_there : {A : Type 0} (o : Option A) (x : A) → o ≡ Some x → IsSome o
 is_there o x is = ap is_some is

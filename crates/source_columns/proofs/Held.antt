@@ -15,7 +15,7 @@ use Rattle.esql_types.specs.declared.value.Kind.{Kind}
 use Rattle.row_semantics.specs.Sources.{with_column, clashes}
 use Rattle.source_columns.specs.Index.{at_name}
 use Rattle.source_columns.specs.Gathered.{Entry, column_of, columns_in, kind_in, AreOrdered}
-use Rattle.source_columns.proofs.Names.{Named}
+use Rattle.source_columns.proofs.Names.{Named, SomeIs, some_is, none_is}
 use Rattle.source_columns.proofs.Order.{with_column-present, clashes-is, clashes_with}
 
 equal_names : (this that : List ℕ) → is_eq (slice_cmp nat_cmp this that) ≡ bytes_eq that this
@@ -54,17 +54,6 @@ inserted key kind (entry ∷ entries) none =
     by_order Less true is none next = absurd cc
     by_order Greater true is none next = absurd cc
     by_order Equal false is none next = absurd cc
-
-none_is : {A : Type 0} (o : Option A) → is_some o ≡ false → o ≡ None
-none_is None absent = refl
-none_is (Some x) absent = absurd cc
-
-abbrev SomeIs : {A : Type 0} → Option A → Type 0
-SomeIs {A} o = (x : A) × (o ≡ Some x)
-
-some_is : {A : Type 0} (o : Option A) → is_some o ≡ true → SomeIs o
-some_is None present = absurd cc
-some_is (Some x) present = (x, refl)
 
 pub column_added : (old new : Named Kind) (key : Bor (List ℕ)) (column : Column) → key.now ≡ column.name → is_some (at_name old key.now) ≡ false
     → new.entries ≡ insert_entry key_order old.entries key column.kind → columns_in new.entries ≡ with_column (columns_in old.entries) column

@@ -30,7 +30,15 @@ pub named_after : {Held : Type 0} (old new : Named Held) (name : List ℕ) (held
     → (other : List ℕ) → at_name new other ≡ cond (bytes_eq name other) (Some held) (at_name old other)
 named_after old new name held changes other = btree_map_updates_str name old new (Some held) changes other
 
-none_is : {A : Type 0} (o : Option A) → is_some o ≡ false → o ≡ None
+-- what is there, and what is not
+abbrev pub SomeIs : {A : Type 0} → Option A → Type 0
+SomeIs {A} o = (x : A) × (o ≡ Some x)
+
+pub some_is : {A : Type 0} (o : Option A) → is_some o ≡ true → SomeIs o
+some_is None present = absurd cc
+some_is (Some x) present = (x, refl)
+
+pub none_is : {A : Type 0} (o : Option A) → is_some o ≡ false → o ≡ None
 none_is None absent = refl
 none_is (Some x) absent = absurd cc
 
@@ -47,18 +55,6 @@ number_added old new name number changes absent other = named_after old new name
     by_same false is None known_is = rw is
     by_same false is (Some known) known_is = refl
 
--- a name that was there
-pub number_kept : (old : Named ℕ) (name : List ℕ) (number : ℕ) → is_some (number_at old name) ≡ true
-    → (other : List ℕ) → number_at old other ≡ number_or (number_at old other) name number other
-number_kept old name number present other = by_same (bytes_eq name other) refl (number_at old other) refl
-  where
-    by_same : (same : Bool) → bytes_eq name other ≡ same → (known : Option ℕ) → number_at old other ≡ known → known ≡ number_or known name number other
-    by_same same is (Some known) known_is = refl
-    by_same true is None known_is =
-        let none : is_some (number_at old name) ≡ false = ap (λ (this : List ℕ). is_some (number_at old this)) (same_names name other is) ∙ ap is_some known_is in
-        absurd cc
-    by_same false is None known_is = rw is
-
 -- one table more
 pub number_of_table-push : (tables : List TableShape) (table : TableShape) (name : List ℕ)
     → number_of_table (tables ++ table ∷ []) name ≡ number_or (number_of_table tables name) table.name (length tables) name
@@ -66,9 +62,6 @@ number_of_table-push [] table name = refl
 number_of_table-push (first ∷ rest) table name =
     by_same (bytes_eq first.name name) (number_of_table rest name) (number_of_table-push rest table name)
   where
-    raise : Option ℕ → Option ℕ
-    raise number = option_map (λ n. n + 1) number
-
     raised : (known : Option ℕ) → option_map (λ n. n + 1) (number_or known table.name (length rest) name) ≡ number_or (option_map (λ n. n + 1) known) table.name (suc (length rest)) name
     raised (Some known) = refl
     raised None = by_last (bytes_eq table.name name)

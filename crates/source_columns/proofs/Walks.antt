@@ -21,12 +21,6 @@ pub walk_adds : (tables : List TableShape) (name : NameAt) (names : List NameAt)
     → with_tables tables names after ≡ with_tables tables (name ∷ names) columns
 walk_adds tables name names columns after adds = ap (λ (answer : Answer). and_then answer (with_tables tables names)) (sym adds)
 
--- and where it is refused
-pub walk_refuses : (tables : List TableShape) (name : NameAt) (names : List NameAt) (columns : List Column) (error : SourceError)
-    → IsRefusal (with_table name (table_named tables name.name) columns) error → IsRefusal (with_tables tables (name ∷ names) columns) error
-walk_refuses tables name names columns (Broken rule span) is = ap (λ (answer : Answer). and_then answer (with_tables tables names)) is
-walk_refuses tables name names columns (Memory error) is = tt
-
 -- the numbers of an index fit 32 bits where the tables are few
 pub few_small : (tables : List TableShape) (index : Named ℕ) → IsIndex tables index → length tables ≤ 4294967295 → AreSmall index
 few_small tables index is few name = subst (λ (this : Option ℕ). IfSome this (λ number. number ≤ 4294967295)) (sym (is name)) (by_number (number_of_table tables name) (table_numbered tables name))

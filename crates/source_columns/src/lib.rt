@@ -7,6 +7,8 @@ mod gathered;
 mod index;
 mod refusals;
 mod sources;
+#[cfg(test)]
+mod tests;
 
 pub use refusals::SourceError;
 pub use sources::{columns_of_tables, tables_named};
