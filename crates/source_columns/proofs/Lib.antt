@@ -1,0 +1,5 @@
+pub mod Again
+pub mod Held
+pub mod Names
+pub mod Order
+pub mod Walks

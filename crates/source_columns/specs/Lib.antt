@@ -1,0 +1,5 @@
+pub mod Gathered
+pub mod Index
+pub mod Numbers
+pub mod Refusals
+pub mod Taken
