@@ -12,3 +12,7 @@ pub mod NamesKept
 pub mod Ordered
 pub mod Apart
 pub mod Limits
+pub mod NodesTyped
+pub mod NodesCounted
+pub mod NodesWritten
+pub mod Orderly

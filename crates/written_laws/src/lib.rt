@@ -6,4 +6,7 @@
 
 mod laws;
 
-pub use laws::{columns_differ, limits_keep_failures, plans_mean_queries, rows_have_their_columns};
+pub use laws::{
+    columns_differ, limits_keep_failures, plans_are_orderly, plans_mean_queries,
+    rows_have_their_columns,
+};
