@@ -1,5 +1,5 @@
 -- A function of parts that are well formed is well formed, where its parts fit by their kinds and its literals are there.
-use Rattle.std.proofs.Common.{◌≡◌, ℕ, suc, ◌+◌, ◌==◌, Bool, true, false, ◌&&◌, List, [], ◌∷◌, ◌++◌, map, length, All, Option, Some, None, is_some, option_map, Result, Ok, Err, refl, ap, sym, subst, ◌∙◌, if◌then◌else◌, arith}
+use Rattle.std.proofs.Common.{◌≡◌, ℕ, suc, ◌+◌, Bool, true, false, ◌&&◌, List, [], ◌∷◌, ◌++◌, map, length, All, Option, Some, None, is_some, option_map, Result, Ok, refl, ap, sym, subst, ◌∙◌, if◌then◌else◌}
 use Rattle.std.specs.Prelude.{slice_get}
 use Rattle.std.specs.List.{flat_map, list_all}
 use Rattle.std.specs.Str.{bytes_eq}
@@ -14,8 +14,8 @@ use Rattle.function_rules.specs.Found.{wrapped}
 use Rattle.esql_plan.specs.declared.function.Function.{Function}
 use Rattle.esql_plan.specs.declared.function.Function.TheVariants as function
 use Rattle.esql_plan.specs.declared.typed.TypedExpr.{TypedExpr}
-use Rattle.esql_plan.specs.Signatures.{Want, a_keyword, whole_pattern, free_pattern, signature_of, is_count, wants_of, misfit, kind_of_call, kind_unless, result_kind, same_kind}
-use Rattle.esql_plan.specs.Fits.{Part as PlanPart, ExprFits, part_of as plan_part, is_pattern, same_text, literals_fit, number_fits, is_result, call_fits}
+use Rattle.esql_plan.specs.Signatures.{a_keyword, whole_pattern, free_pattern, signature_of, is_count, wants_of, misfit, kind_of_call, kind_unless, result_kind, same_kind}
+use Rattle.esql_plan.specs.Fits.{Part as PlanPart, ExprFits, part_of as plan_part, is_pattern, same_text, literals_fit, is_result}
 use Rattle.esql_plan.proofs.TypedFolds.{part_of_constant, part_of_column, part_of_call}
 use Rattle.esql_plan.proofs.Inductions.{typed_ind}
 use Rattle.row_semantics.specs.Forms.{Part, applied, is_word, function_in_plan, arguments_in_plan}
@@ -28,7 +28,7 @@ use Rattle.written_laws.proofs.Squares.{map_map, map_same}
 use Rattle.written_laws.proofs.Kinded.{StandsOver, Both, typing_in, judged_in, found_of, parts_kinded, arguments_have, kinds_typed}
 use Rattle.written_laws.proofs.Numbers.{HasAt, at-append}
 use Rattle.written_laws.proofs.RowsFit.{HasPattern, IsCount}
-use Rattle.written_laws.proofs.WantsFit.{is_plain, are_plain, all_plain_fit, wants_plain, number_is}
+use Rattle.written_laws.proofs.WantsFit.{are_plain, all_plain_fit, wants_plain, number_is}
 
 -- A part has its literal in the plan; where it breaks no rule, and its patterns stand at its numbers, it is well formed.
 pub record PartFits (part : Part Both) : Type 0 where

@@ -1,5 +1,5 @@
 -- The typed form of an expression that breaks no rule is well formed, where its patterns stand at its numbers.
-use Rattle.std.proofs.Common.{◌≡◌, ℕ, suc, ◌+◌, nat_le, Bool, true, false, cond, ◌&&◌, List, [], ◌∷◌, ◌++◌, map, length, All, Option, Some, None, is_some, Ok, refl, ap, sym, subst, ◌∙◌, if◌then◌else◌, arith}
+use Rattle.std.proofs.Common.{◌≡◌, ℕ, suc, nat_le, Bool, true, false, cond, ◌&&◌, List, [], ◌∷◌, map, length, All, Option, Some, None, is_some, Ok, refl, ap, sym, subst, ◌∙◌, if◌then◌else◌, arith}
 use Rattle.std.specs.List.{list_all}
 use Rattle.std.proofs.lemmas.Bool.{and_parts}
 use Rattle.std.proofs.lemmas.Bool.Decides.{nat_tests}
@@ -11,7 +11,6 @@ use Rattle.esql_types.specs.declared.value.Kind.TheVariants as kind
 use Rattle.esql_types.specs.declared.value.Value.{Value}
 use Rattle.esql_types.specs.declared.value.Value.TheVariants as value
 use Rattle.esql_types.specs.declared.names.NodeId.{NodeId}
-use Rattle.esql_ast.specs.declared.query.TextAt.{TextAt}
 use Rattle.esql_ast.specs.declared.expr.BinaryOp.{BinaryOp}
 use Rattle.esql_ast.specs.declared.expr.BinaryOp.TheVariants as operator
 use Rattle.esql_ast.specs.declared.expr.Expr.{Expr}
@@ -20,14 +19,12 @@ use Rattle.esql_ast.specs.declared.expr.Form.TheBlock.{the_family, member-Form, 
 use Rattle.esql_ast.specs.declared.expr.Form.TheOpen.{Expr-F, Form-F, Constant, List as Listed, Column, Group, Call, Minus, Not, Binary, Within, Like, IsNull, Cast}
 use Rattle.esql_ast.specs.declared.expr.Form.TheViews.{roll-Form, roll-Expr}
 use Rattle.esql_ast.specs.declared.expr.Form.TheFolds.{claims, map-Form, map-Expr, fold-Form, fold-roll-Form, fold-roll-Expr, ind-Expr}
-use Rattle.esql_ast.proofs.Folds.{joined_map}
 use Rattle.esql_plan.specs.declared.function.Function.{Function}
 use Rattle.esql_plan.specs.declared.function.Function.TheVariants as function
 use Rattle.esql_plan.specs.declared.function.AggFunction.{AggFunction}
 use Rattle.esql_plan.specs.declared.names.FunctionRow.{FunctionRow}
 use Rattle.esql_plan.specs.declared.plan.OutColumn.{OutColumn}
 use Rattle.esql_plan.specs.Names.{function_named, aggregate_named, cast_named}
-use Rattle.esql_plan.specs.Signatures.{is_count, signature_of}
 use Rattle.esql_plan.specs.Fits.{Part as PlanPart, ExprFits, part_of as plan_part, has_kind}
 use Rattle.esql_plan.proofs.TypedFolds.{part_of_constant, part_of_column}
 use Rattle.row_semantics.specs.declared.rule.NameRule.TheVariants as rule
@@ -39,7 +36,7 @@ use Rattle.written_laws.specs.Items.{some_and_all, has_items_in, has_items, HasI
 use Rattle.written_laws.proofs.Readings.{seen_with, read_made}
 use Rattle.written_laws.proofs.Kinded.{StandsOver, Both, typing_in, judged_in, both}
 use Rattle.written_laws.proofs.Numbers.{HasAt}
-use Rattle.written_laws.proofs.RowsFit.{RowFits, HasPattern, IsCount, CastFits, named_fits, cast_fits}
+use Rattle.written_laws.proofs.RowsFit.{RowFits, CastFits, named_fits, cast_fits}
 use Rattle.written_laws.proofs.KindsOfValues.{HaveKind, list_has}
 use Rattle.written_laws.proofs.CallsFit.{PartFits, AppliedFits, applied_fits}
 

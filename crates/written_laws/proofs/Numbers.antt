@@ -1,7 +1,6 @@
 -- Patterns that stand at a number and on in a list of patterns.
-use Rattle.std.proofs.Common.{◌≡◌, ℕ, suc, ◌+◌, List, [], ◌∷◌, ◌++◌, length, Some, refl, ap, sym, subst, ◌∙◌, append_assoc, arith}
+use Rattle.std.proofs.Common.{◌≡◌, ℕ, suc, ◌+◌, List, [], ◌∷◌, ◌++◌, length, Some, refl, ap, subst, ◌∙◌, append_assoc, arith}
 use Rattle.std.specs.Prelude.{slice_get}
-use Rattle.std.proofs.lemmas.List.{append-nil}
 
 -- these texts stand in the list, the first at this place
 abbrev pub HasAt : List (List ℕ) → ℕ → List (List ℕ) → Type 0
@@ -32,10 +31,11 @@ length-push (first ∷ before) text = ap (λ n. suc n) (length-push before text)
 
 behind : (before texts : List (List ℕ)) → HasAt (before ++ texts) (length before) texts
 behind before [] = tt
-behind before (text ∷ texts) =
-    (slice_get-behind before text texts,
-    subst (λ (n : ℕ). HasAt (before ++ text ∷ texts) n texts) (length-push before text)
-    (subst (λ (patterns : List (List ℕ)). HasAt patterns (length (before ++ text ∷ [])) texts) (append_assoc before (text ∷ []) texts) (behind (before ++ text ∷ []) texts)))
+behind before (text ∷ texts) = (
+  slice_get-behind before text texts,
+  subst (λ (n : ℕ). HasAt (before ++ text ∷ texts) n texts) (length-push before text)
+      (subst (λ (patterns : List (List ℕ)). HasAt patterns (length (before ++ text ∷ [])) texts) (append_assoc before (text ∷ []) texts) (behind (before ++ text ∷ []) texts)),
+)
 
 -- all patterns stand at the front
 pub all_at : (patterns : List (List ℕ)) → HasAt patterns 0 patterns

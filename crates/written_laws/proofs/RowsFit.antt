@@ -1,5 +1,5 @@
 -- A call by a name has as many arguments as the signature of its function takes, and calls no function with a pattern beside an operator.
-use Rattle.std.proofs.Common.{◌≡◌, ℕ, nat_le, Bool, true, false, ◌&&◌, List, [], ◌∷◌, length, Option, Some, None, is_some, refl, subst, if◌then◌else◌}
+use Rattle.std.proofs.Common.{◌≡◌, ℕ, Bool, true, false, List, [], ◌∷◌, length, Some, is_some, refl, subst, if◌then◌else◌}
 use Rattle.std.specs.List.{AllByRecursion}
 use Rattle.std.specs.Str.{str_eq_ignore_ascii_case}
 use Rattle.esql_plan.specs.declared.function.Function.{Function}
@@ -77,14 +77,97 @@ unfolding function_named
 named_fits {A} name row is = found_fits (RowFits A) function_names name row all is
   where
     all : AllByRecursion (λ (entry : List ℕ × FunctionRow). RowFits A entry.1) function_names
-    all =
-        (plain function.Abs refl, (plain function.Greatest refl, (plain function.Least refl, (plain function.Case refl, (plain function.Coalesce refl,
-        (plain function.ToInteger refl, (plain function.ToInteger refl, (plain function.ToLong refl, (plain function.ToBoolean refl, (plain function.ToBoolean refl,
-        (plain function.ToString refl, (plain function.ToString refl, (plain function.Length refl, (plain function.Concat refl, (plain function.Substring refl,
-        (plain function.Left refl, (plain function.Right refl, (plain function.Trim refl, (plain function.Ltrim refl, (plain function.Rtrim refl,
-        (plain function.StartsWith refl, (plain function.EndsWith refl, (plain function.Replace refl, (plain function.Split refl, (plain function.MvCount refl,
-        (plain function.MvSum refl, (plain function.MvMin refl, (plain function.MvMax refl, (plain function.MvFirst refl, (plain function.MvLast refl,
-        (plain function.MvDedupe refl, (sorting, (plain function.MvConcat refl, (plain function.MvAppend refl, (plain function.MvSlice refl, tt)))))))))))))))))))))))))))))))))))
+    all = (
+      plain function.Abs refl,
+      (
+        plain function.Greatest refl,
+        (
+          plain function.Least refl,
+          (
+            plain function.Case refl,
+            (
+              plain function.Coalesce refl,
+              (
+                plain function.ToInteger refl,
+                (
+                  plain function.ToInteger refl,
+                  (
+                    plain function.ToLong refl,
+                    (
+                      plain function.ToBoolean refl,
+                      (
+                        plain function.ToBoolean refl,
+                        (
+                          plain function.ToString refl,
+                          (
+                            plain function.ToString refl,
+                            (
+                              plain function.Length refl,
+                              (
+                                plain function.Concat refl,
+                                (
+                                  plain function.Substring refl,
+                                  (
+                                    plain function.Left refl,
+                                    (
+                                      plain function.Right refl,
+                                      (
+                                        plain function.Trim refl,
+                                        (
+                                          plain function.Ltrim refl,
+                                          (
+                                            plain function.Rtrim refl,
+                                            (
+                                              plain function.StartsWith refl,
+                                              (
+                                                plain function.EndsWith refl,
+                                                (
+                                                  plain function.Replace refl,
+                                                  (
+                                                    plain function.Split refl,
+                                                    (
+                                                      plain function.MvCount refl,
+                                                      (
+                                                        plain function.MvSum refl,
+                                                        (
+                                                          plain function.MvMin refl,
+                                                          (
+                                                            plain function.MvMax refl,
+                                                            (
+                                                              plain function.MvFirst refl,
+                                                              (
+                                                                plain function.MvLast refl,
+                                                                (plain function.MvDedupe refl, (sorting, (plain function.MvConcat refl, (plain function.MvAppend refl, (plain function.MvSlice refl, tt))))),
+                                                              ),
+                                                            ),
+                                                          ),
+                                                        ),
+                                                      ),
+                                                    ),
+                                                  ),
+                                                ),
+                                              ),
+                                            ),
+                                          ),
+                                        ),
+                                      ),
+                                    ),
+                                  ),
+                                ),
+                              ),
+                            ),
+                          ),
+                        ),
+                      ),
+                    ),
+                  ),
+                ),
+              ),
+            ),
+          ),
+        ),
+      ),
+    )
 
 -- a conversion takes one argument
 pub record CastFits (A : Type 0) (function : Function) : Type 0 where
