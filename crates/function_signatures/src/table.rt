@@ -104,7 +104,7 @@ pub(crate) fn signature_of(function: Function) -> Signature
             takes(Parameters::Two(Want::Boolean, Want::Boolean), BOOLEAN)
         }
         Function::Not => takes(Parameters::One(Want::Boolean), BOOLEAN),
-        Function::In | Function::NotIn => widening(Parameters::TwoOrMore(Want::Value), BOOLEAN),
+        Function::In | Function::NotIn => widening(Parameters::OneOrMore(Want::Value), BOOLEAN),
         Function::Like | Function::NotLike => {
             takes(Parameters::Two(Want::Keyword, Want::LikePattern), BOOLEAN)
         }
