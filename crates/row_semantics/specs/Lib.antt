@@ -1,4 +1,3 @@
-pub mod Built
 pub mod Columns
 pub mod Fields
 pub mod Forms
@@ -9,4 +8,3 @@ pub mod Rows
 pub mod Scopes
 pub mod Sources
 pub mod Typed
-pub mod Values

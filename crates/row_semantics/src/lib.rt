@@ -1,12 +1,12 @@
-//! What an expression means on a row, by names, with the plain program that computes it.
+//! What an expression means on a row, by names: its value, its kind or the first rule that it breaks, and its typed form; and
+//! the columns of FROM. Definitions alone.
+//!
+//! Read its specs in this order: `Forms`, `Rows`, `Meanings`, `Regulars`, `Scopes`, `Kinds`, `Fields`, `Columns`, `Sources`,
+//! `Typed`.
 #![tactic(auto)]
 
-mod computed;
-mod evaluate;
 mod row;
 mod rule;
 
-pub use computed::{Computed, compute};
-pub use evaluate::value_of;
-pub use row::{NamedCell, cell_at, put};
+pub use row::NamedCell;
 pub use rule::NameRule;

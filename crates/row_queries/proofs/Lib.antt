@@ -1,4 +1,0 @@
-mod FirstUnbuilt
-mod Firsts
-mod Places
-mod Shaped
