@@ -1,12 +1,14 @@
 -- A call by a name has as many arguments as the signature of its function takes, and calls no function with a pattern beside an operator.
-use Rattle.std.proofs.Common.{◌≡◌, ℕ, Bool, true, false, List, [], ◌∷◌, length, Some, is_some, refl, subst, if◌then◌else◌}
-use Rattle.std.specs.List.{AllByRecursion}
+use Rattle.std.proofs.Common.{◌≡◌, ℕ, nat_le, ◌==◌, Bool, true, false, ◌&&◌, List, [], ◌∷◌, length, Option, Some, None, is_some, refl, ap, sym, ◌∙◌, if◌then◌else◌, arith}
+use Rattle.std.specs.List.{list_all}
 use Rattle.std.specs.Str.{str_eq_ignore_ascii_case}
+use Rattle.std.proofs.lemmas.Bool.{and_parts}
+use Rattle.std.proofs.lemmas.Bool.Decides.{nat_tests}
 use Rattle.esql_plan.specs.declared.function.Function.{Function}
 use Rattle.esql_plan.specs.declared.function.Function.TheVariants as function
 use Rattle.esql_plan.specs.declared.names.FunctionRow.{FunctionRow}
-use Rattle.esql_plan.specs.Names.{entry_in, row_of, sort_row, function_names, cast_names, function_named, cast_named}
-use Rattle.esql_plan.specs.Signatures.{signature_of, is_count}
+use Rattle.esql_plan.specs.Names.{entry_in, function_names, cast_names, function_named, cast_named}
+use Rattle.esql_plan.specs.Signatures.{signature_of, least_count, most_count, is_at_most, is_count}
 use Rattle.row_semantics.specs.Forms.{Part, is_word, takes, function_in_plan, arguments_in_plan}
 
 -- the pattern beside LIKE and RLIKE is a literal
@@ -21,174 +23,106 @@ HasPattern function parts = Unit {0}
 abbrev pub IsCount : {A : Type 0} → Function → List (Part A) → Type 0
 IsCount function parts = is_count (signature_of (function_in_plan function parts)).parameters (length (arguments_in_plan function parts)) ≡ true
 
--- a call of so many parts is well formed
-pub record RowFits (A : Type 0) (row : FunctionRow) : Type 0 where
-  pub count : (parts : List (Part A)) → takes row (length parts) ≡ true → IsCount row.function parts
-  pub pattern : (parts : List (Part A)) → HasPattern row.function parts
+-- what a test finds of each entry of a table it finds of what a name stands for
+found_passes : {Entry : Type 0} (test : Entry → Bool) (entries : List (List ℕ × Entry)) (name : List ℕ) (found : Entry) → list_all (λ (entry : List ℕ × Entry). test entry.1) entries ≡ true
+    → entry_in entries name ≡ Some found → test found ≡ true
+found_passes test [] name found all is = absurd cc
+found_passes {Entry} test (entry ∷ entries) name found all is =
+    let both = and_parts (test entry.1) (list_all (λ (entry : List ℕ × Entry). test entry.1) entries) all in
+    elim (str_eq_ignore_ascii_case name entry.0) as (λ b. (if b then Some entry.1 else entry_in entries name) ≡ Some found → test found ≡ true)
+    [ true ↦ λ here. sym (ap test (some_is entry.1 found here)) ∙ both.0 | false ↦ λ there. found_passes test entries name found both.1 there ] is
+  where
+    some_is : (this that : Entry) → Some this ≡ Some that → this ≡ that
+    some_is this that is = cc
 
--- the function has no pattern, and is the same in the plan
-abbrev is_plain : Function → Bool
-is_plain function.Like = false
-is_plain function.NotLike = false
-is_plain function.Rlike = false
-is_plain function.NotRlike = false
-is_plain function.MvSort = false
-is_plain function = true
+-- calls ----------------------------------------------------------------------------------------------------------------------
 
-plain_count : {A : Type 0} (function : Function) → is_plain function ≡ true → (parts : List (Part A)) → takes (row_of function) (length parts) ≡ true → IsCount function parts
-plain_count function.MvSort is parts taken = absurd cc
-plain_count other is parts taken = taken
+abbrev same_most : Option ℕ → Option ℕ → Bool
+same_most None None = true
+same_most None (Some that) = false
+same_most (Some this) None = false
+same_most (Some this) (Some that) = this == that
 
-plain_pattern : {A : Type 0} (function : Function) → is_plain function ≡ true → (parts : List (Part A)) → HasPattern function parts
-plain_pattern function.Like is parts = absurd cc
-plain_pattern function.NotLike is parts = absurd cc
-plain_pattern function.Rlike is parts = absurd cc
-plain_pattern function.NotRlike is parts = absurd cc
-plain_pattern other is parts = tt
+-- the numbers are those of the function's signature, but MV_SORT may have a direction
+abbrev is_signed : Function → ℕ → Option ℕ → Bool
+is_signed function.Like least most = false
+is_signed function.NotLike least most = false
+is_signed function.Rlike least most = false
+is_signed function.NotRlike least most = false
+is_signed function.MvSort least most = least == 1
+is_signed function least most = least == least_count (signature_of function).parameters && same_most most (most_count (signature_of function).parameters)
 
-plain : {A : Type 0} (function : Function) → is_plain function ≡ true → RowFits A (row_of function)
-plain function is = record { count = plain_count function is; pattern = plain_pattern function is }
+same_number : (this that : ℕ) → this == that ≡ true → this ≡ that
+same_number this that is = grind (arith, is)
+
+most_is : (this that : Option ℕ) → same_most this that ≡ true → this ≡ that
+most_is None None is = refl
+most_is None (Some that) is = absurd cc
+most_is (Some this) None is = absurd cc
+most_is (Some this) (Some that) is = ap Some (same_number this that is)
+
+one_at_least : (least : ℕ) → least == 1 ≡ true → nat_le least 0 ≡ true → ⊥
+one_at_least least one none = grind (arith, nat_tests, one, none)
 
 ordered_count : (descending : Bool) → is_count (signature_of (if descending then function.MvSortDesc else function.MvSort)).parameters 1 ≡ true
 ordered_count true = refl
 ordered_count false = refl
 
-sort_count : {A : Type 0} (parts : List (Part A)) → takes sort_row (length parts) ≡ true → IsCount function.MvSort parts
-sort_count [] taken = absurd cc
-sort_count (values ∷ []) taken = refl
-sort_count (values ∷ order ∷ rest) taken = ordered_count (is_word "DESC" order.literal)
+signed_count : {A : Type 0} (function : Function) (least : ℕ) (most : Option ℕ) → is_signed function least most ≡ true → (parts : List (Part A))
+    → (nat_le least (length parts) && is_at_most most (length parts)) ≡ true → IsCount function parts
+signed_count function.Like least most signed parts taken = absurd cc
+signed_count function.NotLike least most signed parts taken = absurd cc
+signed_count function.Rlike least most signed parts taken = absurd cc
+signed_count function.NotRlike least most signed parts taken = absurd cc
+signed_count function.MvSort least most signed [] taken = absurd (one_at_least least signed (and_parts (nat_le least 0) (is_at_most most 0) taken).0)
+signed_count function.MvSort least most signed (values ∷ []) taken = refl
+signed_count function.MvSort least most signed (values ∷ order ∷ rest) taken = ordered_count (is_word "DESC" order.literal)
+signed_count other least most signed parts taken =
+    let both = and_parts (least == least_count (signature_of other).parameters) (same_most most (most_count (signature_of other).parameters)) signed in
+    (λ i. nat_le (sym (same_number least _ both.0) i) (length parts) && is_at_most (sym (most_is most _ both.1) i) (length parts)) ∙ taken
 
-sorting : {A : Type 0} → RowFits A sort_row
-sorting = record { count = sort_count; pattern = λ parts. tt }
+signed_pattern : {A : Type 0} (function : Function) (least : ℕ) (most : Option ℕ) → is_signed function least most ≡ true → (parts : List (Part A)) → HasPattern function parts
+signed_pattern function.Like least most signed parts = absurd cc
+signed_pattern function.NotLike least most signed parts = absurd cc
+signed_pattern function.Rlike least most signed parts = absurd cc
+signed_pattern function.NotRlike least most signed parts = absurd cc
+signed_pattern other least most signed parts = tt
 
--- what holds of each entry of a table holds of what a name stands for
-found_fits : {Entry : Type 0} (P : Entry → Type 0) (entries : List (List ℕ × Entry)) (name : List ℕ) (found : Entry) → AllByRecursion (λ (entry : List ℕ × Entry). P entry.1) entries
-    → entry_in entries name ≡ Some found → P found
-found_fits P [] name found all is = absurd cc
-found_fits {Entry} P (entry ∷ entries) name found all is =
-    elim (str_eq_ignore_ascii_case name entry.0) as (λ b. (if b then Some entry.1 else entry_in entries name) ≡ Some found → P found)
-    [ true ↦ λ here. subst P (some_is entry.1 found here) all.0 | false ↦ λ there. found_fits P entries name found all.1 there ] is
-  where
-    some_is : (this that : Entry) → Some this ≡ Some that → this ≡ that
-    some_is this that is = cc
+-- a call by a name is well formed
+pub record RowFits (A : Type 0) (row : FunctionRow) : Type 0 where
+  pub count : (parts : List (Part A)) → takes row (length parts) ≡ true → IsCount row.function parts
+  pub pattern : (parts : List (Part A)) → HasPattern row.function parts
+
+abbrev is_row : FunctionRow → Bool
+is_row row = is_signed row.function row.least row.most
 
 pub named_fits : {A : Type 0} (name : List ℕ) (row : FunctionRow) → function_named name ≡ Some row → RowFits A row
 unfolding function_named
-named_fits {A} name row is = found_fits (RowFits A) function_names name row all is
-  where
-    all : AllByRecursion (λ (entry : List ℕ × FunctionRow). RowFits A entry.1) function_names
-    all = (
-      plain function.Abs refl,
-      (
-        plain function.Greatest refl,
-        (
-          plain function.Least refl,
-          (
-            plain function.Case refl,
-            (
-              plain function.Coalesce refl,
-              (
-                plain function.ToInteger refl,
-                (
-                  plain function.ToInteger refl,
-                  (
-                    plain function.ToLong refl,
-                    (
-                      plain function.ToBoolean refl,
-                      (
-                        plain function.ToBoolean refl,
-                        (
-                          plain function.ToString refl,
-                          (
-                            plain function.ToString refl,
-                            (
-                              plain function.Length refl,
-                              (
-                                plain function.Concat refl,
-                                (
-                                  plain function.Substring refl,
-                                  (
-                                    plain function.Left refl,
-                                    (
-                                      plain function.Right refl,
-                                      (
-                                        plain function.Trim refl,
-                                        (
-                                          plain function.Ltrim refl,
-                                          (
-                                            plain function.Rtrim refl,
-                                            (
-                                              plain function.StartsWith refl,
-                                              (
-                                                plain function.EndsWith refl,
-                                                (
-                                                  plain function.Replace refl,
-                                                  (
-                                                    plain function.Split refl,
-                                                    (
-                                                      plain function.MvCount refl,
-                                                      (
-                                                        plain function.MvSum refl,
-                                                        (
-                                                          plain function.MvMin refl,
-                                                          (
-                                                            plain function.MvMax refl,
-                                                            (
-                                                              plain function.MvFirst refl,
-                                                              (
-                                                                plain function.MvLast refl,
-                                                                (plain function.MvDedupe refl, (sorting, (plain function.MvConcat refl, (plain function.MvAppend refl, (plain function.MvSlice refl, tt))))),
-                                                              ),
-                                                            ),
-                                                          ),
-                                                        ),
-                                                      ),
-                                                    ),
-                                                  ),
-                                                ),
-                                              ),
-                                            ),
-                                          ),
-                                        ),
-                                      ),
-                                    ),
-                                  ),
-                                ),
-                              ),
-                            ),
-                          ),
-                        ),
-                      ),
-                    ),
-                  ),
-                ),
-              ),
-            ),
-          ),
-        ),
-      ),
-    )
+named_fits name row is =
+    let signed = found_passes is_row function_names name row refl is in
+    record { count = signed_count row.function row.least row.most signed; pattern = signed_pattern row.function row.least row.most signed }
 
--- a conversion takes one argument
+-- conversions ------------------------------------------------------------------------------------------------------------------
+
+abbrev is_conversion : Function → Bool
+is_conversion function.ToInteger = true
+is_conversion function.ToLong = true
+is_conversion function.ToBoolean = true
+is_conversion function.ToString = true
+is_conversion function = false
+
+-- a conversion has one argument
 pub record CastFits (A : Type 0) (function : Function) : Type 0 where
   pub count : (part : Part A) → IsCount function (part ∷ [])
   pub pattern : (part : Part A) → HasPattern function (part ∷ [])
 
+conversion_fits : {A : Type 0} (function : Function) → is_conversion function ≡ true → CastFits A function
+conversion_fits function.ToInteger is = record { count = λ part. refl; pattern = λ part. tt }
+conversion_fits function.ToLong is = record { count = λ part. refl; pattern = λ part. tt }
+conversion_fits function.ToBoolean is = record { count = λ part. refl; pattern = λ part. tt }
+conversion_fits function.ToString is = record { count = λ part. refl; pattern = λ part. tt }
+conversion_fits other is = absurd cc
+
 pub cast_fits : {A : Type 0} (name : List ℕ) (function : Function) → cast_named name ≡ Some function → CastFits A function
 unfolding cast_named
-cast_fits {A} name found is = found_fits (CastFits A) cast_names name found all is
-  where
-    to_integer : CastFits A function.ToInteger
-    to_integer = record { count = λ part. refl; pattern = λ part. tt }
-
-    to_boolean : CastFits A function.ToBoolean
-    to_boolean = record { count = λ part. refl; pattern = λ part. tt }
-
-    to_string : CastFits A function.ToString
-    to_string = record { count = λ part. refl; pattern = λ part. tt }
-
-    to_long : CastFits A function.ToLong
-    to_long = record { count = λ part. refl; pattern = λ part. tt }
-
-    all : AllByRecursion (λ (entry : List ℕ × Function). CastFits A entry.1) cast_names
-    all = (to_integer, (to_integer, (to_long, (to_boolean, (to_boolean, (to_string, (to_string, tt)))))))
+cast_fits name found is = conversion_fits found (found_passes is_conversion cast_names name found refl is)
