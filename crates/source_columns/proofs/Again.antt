@@ -1,5 +1,5 @@
 -- A table that is named again.
-use Rattle.std.proofs.Common.{◌≡◌, ℕ, Bool, true, false, cond, not, ◌||◌, List, [], ◌∷◌, fold, Option, Some, None, IsSome, is_some, true≢false, Result, Ok, Err, refl, sym, ap, subst, ◌∙◌}
+use Rattle.std.proofs.Common.{◌≡◌, ℕ, Bool, true, false, cond, not, ◌||◌, List, [], ◌∷◌, fold, Option, Some, None, IsSome, is_some, Result, Ok, Err, refl, sym, ap, subst, ◌∙◌}
 use Rattle.std.specs.Prelude.{IfSome}
 use Rattle.std.specs.List.{AllByRecursion, list_any}
 use Rattle.std.specs.Str.{bytes_eq}
@@ -9,7 +9,6 @@ use Rattle.esql_ast.specs.declared.query.NameAt.{NameAt}
 use Rattle.esql_plan.specs.declared.catalog.TableShape.{TableShape}
 use Rattle.row_semantics.specs.declared.rule.NameRule.TheVariants as rule
 use Rattle.row_semantics.specs.Scopes.{Broken}
-use Rattle.row_semantics.specs.Kinds.{breaks}
 use Rattle.row_semantics.specs.Sources.{with_column, clashes, with_table, table_named}
 use Rattle.source_columns.specs.Index.{at_name}
 use Rattle.source_columns.specs.Gathered.{kind_in, AreOrdered}

@@ -1,5 +1,5 @@
 -- A name more of FROM.
-use Rattle.std.proofs.Common.{◌≡◌, ℕ, ◌+◌, ◌<◌, ◌≤◌, List, [], ◌∷◌, drop, length, get_or, Option, Some, None, Result, Ok, Err, fold, refl, sym, ap, subst, ◌∙◌, arith}
+use Rattle.std.proofs.Common.{◌≡◌, ℕ, ◌<◌, ◌≤◌, List, ◌∷◌, length, Option, Some, None, Result, Ok, fold, sym, ap, subst, ◌∙◌, arith}
 use Rattle.std.specs.Prelude.{IfSome}
 use Rattle.esql_types.specs.declared.names.Column.{Column}
 use Rattle.esql_ast.specs.declared.query.NameAt.{NameAt}
@@ -7,9 +7,6 @@ use Rattle.esql_plan.specs.declared.catalog.TableShape.{TableShape}
 use Rattle.row_semantics.specs.Scopes.{Broken as BrokenRule}
 use Rattle.row_semantics.specs.Kinds.{and_then}
 use Rattle.row_semantics.specs.Sources.{number_of_table, table_named, with_table, with_tables, with_number}
-use Rattle.source_columns.specs.declared.refusals.SourceError.{SourceError}
-use Rattle.source_columns.specs.declared.refusals.SourceError.TheVariants.{Broken, Memory}
-use Rattle.source_columns.specs.Refusals.{IsRefusal}
 use Rattle.source_columns.specs.Index.{IsIndex, AreSmall, number_at}
 use Rattle.source_columns.proofs.Names.{Named, IsNumbered, table_numbered}
 

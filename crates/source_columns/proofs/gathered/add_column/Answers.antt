@@ -1,4 +1,4 @@
-use Rattle.std.proofs.Common.{◌≡◌, ◌∙◌, sym}
+use Rattle.std.proofs.Common.{◌∙◌, sym}
 use Rattle.source_columns.proofs.Held.{column_added, column_kept}
 use Rattle.source_columns.proofs.gathered.add_column.Goals as goal
 

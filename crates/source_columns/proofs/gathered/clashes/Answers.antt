@@ -1,4 +1,4 @@
-use Rattle.std.proofs.Common.{◌≡◌, ◌∙◌, sym, ap, not, None, Some}
+use Rattle.std.proofs.Common.{◌∙◌, sym, ap, not, None, Some}
 use Rattle.source_columns.proofs.Held.{clash_of}
 use Rattle.source_columns.proofs.gathered.clashes.Goals as goal
 

@@ -1,5 +1,5 @@
-use Rattle.std.proofs.Common.{◌≡◌, false, sym, ◌∙◌}
-use Rattle.source_columns.proofs.Names.{number_added, number_kept}
+use Rattle.std.proofs.Common.{sym, ◌∙◌}
+use Rattle.source_columns.proofs.Names.{number_added}
 use Rattle.source_columns.proofs.index.add_name.Goals as goal
 
 pub returns-in_ok-insert : goal.returns-in_ok-insert

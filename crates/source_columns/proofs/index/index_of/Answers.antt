@@ -1,9 +1,4 @@
-use Rattle.std.proofs.Common.{◌≡◌, ◌+◌, ◌++◌, ◌∷◌, [], ℕ, List, length, take, sym, ap, ◌∙◌}
-use Rattle.std.specs.Prelude.{Option}
-use Rattle.std.proofs.lemmas.List.{take_more, length-take-le}
-use Rattle.esql_plan.specs.declared.catalog.TableShape.{TableShape}
-use Rattle.row_semantics.specs.Sources.{number_of_table}
-use Rattle.source_columns.specs.Index.{number_or}
+use Rattle.std.proofs.Common.{sym, ◌∙◌}
 use Rattle.source_columns.proofs.Names.{one_more}
 use Rattle.source_columns.proofs.index.index_of.Goals as goal
 

@@ -1,4 +1,4 @@
-use Rattle.std.proofs.Common.{◌≡◌, None, Some, refl, ◌∙◌}
+use Rattle.std.proofs.Common.{None, Some, refl, ◌∙◌}
 use Rattle.source_columns.proofs.Names.{table_found, item_read}
 use Rattle.source_columns.proofs.index.table_of.Goals as goal
 

@@ -1,6 +1,5 @@
-use Rattle.std.proofs.Common.{◌≡◌, ◌≤◌, ℕ, List, Option, Some, sym, ap, subst, ◌∙◌, arith}
+use Rattle.std.proofs.Common.{◌≤◌, ℕ, Option, sym, subst, arith}
 use Rattle.std.specs.Prelude.{IfSome}
-use Rattle.source_columns.specs.Index.{number_at}
 use Rattle.source_columns.proofs.sources.add_named.Goals as goal
 
 pub overflow_cast-number : goal.overflow_cast-number

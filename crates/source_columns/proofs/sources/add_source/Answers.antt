@@ -1,5 +1,4 @@
-use Rattle.std.proofs.Common.{◌≡◌, List, ℕ, Bool, true, false, Some, ap, sym, subst, ◌∙◌}
-use Rattle.esql_plan.specs.declared.catalog.TableShape.{TableShape}
+use Rattle.std.proofs.Common.{◌≡◌, List, ℕ, true, false, Some, ap, sym, subst, ◌∙◌}
 use Rattle.row_semantics.specs.Sources as source
 use Rattle.source_columns.specs.Gathered.{columns_in}
 use Rattle.source_columns.specs.Index.{at_name}

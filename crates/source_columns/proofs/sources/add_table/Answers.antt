@@ -1,4 +1,4 @@
-use Rattle.std.proofs.Common.{◌≡◌, subst, sym, refl, ap, fold, List, ◌∙◌}
+use Rattle.std.proofs.Common.{subst, sym, refl, ap, fold, List, ◌∙◌}
 use Rattle.std.specs.List.{list_any}
 use Rattle.esql_types.specs.declared.names.Column.{Column}
 use Rattle.row_semantics.specs.Sources as source
