@@ -1,10 +1,12 @@
 //! The functions on lists of values, in the sense of the multivalue functions of the ES|QL language reference. A list
 //! without values stands for null.
 
-ghost use Rattle.std.specs.Prelude.{◌≡◌, ◌++◌, pos, length, map, IfOk, IfSome, OnOk};
+ghost use Rattle.std.specs.Prelude.{◌≡◌, ◌≢◌, ◌++◌, pos, length, map, IfNone, IfOk, IfSome, OnOk};
 ghost use Rattle.std.specs.Option.{option_copied, option_to_list};
 ghost use Rattle.std.specs.Bool.{Decides};
-ghost use Rattle.esql_types.specs.Values.{value_cmp};
+ghost use Rattle.std.specs.List.{Any};
+ghost use Rattle.esql_types.specs.Values.{kind_of_value, value_cmp};
+ghost use Rattle.esql_types.specs.declared.value.Kind.TheVariants.{Integer, Long as LongKind};
 ghost use Rattle.esql_types.specs.declared.value.Value.{Value as PlainValue};
 ghost use Rattle.esql_types.specs.declared.value.Value.TheVariants.{Int, Long};
 ghost use Rattle.function_rules.specs.Lists.{count_of, distinct_of, first_of, greatest_of, last_of, least_of, place_of, slice_of, sorted_by};
@@ -117,7 +119,8 @@ fn sort_longs(alloc: Global, values: &[Value], descending: bool) -> Result<Cell,
 
 /// The numbers of values that are all longs, or `None` where one is not.
 fn longs_in(alloc: Global, values: &[Value]) -> Result<Option<Vec<i64>>, AllocError>
-    ensures { IfOk result (λ found. IfSome found (λ numbers. map Long numbers.items ≡ values.now)) }
+    ensures some { IfOk result (λ found. IfSome found (λ numbers. map Long numbers.items ≡ values.now)) }
+    ensures none { IfOk result (λ found. IfNone found (Any (λ value. kind_of_value value ≢ LongKind) values.now)) }
 {
     let mut numbers = Vec::with_capacity(alloc, values.len())?;
     for value in values {
@@ -155,7 +158,8 @@ fn sort_integers(alloc: Global, values: &[Value], descending: bool) -> Result<Ce
 
 /// The numbers of values that are all integers, or `None` where one is not.
 fn integers_in(alloc: Global, values: &[Value]) -> Result<Option<Vec<i32>>, AllocError>
-    ensures { IfOk result (λ found. IfSome found (λ numbers. map Int numbers.items ≡ values.now)) }
+    ensures some { IfOk result (λ found. IfSome found (λ numbers. map Int numbers.items ≡ values.now)) }
+    ensures none { IfOk result (λ found. IfNone found (Any (λ value. kind_of_value value ≢ Integer) values.now)) }
 {
     let mut numbers = Vec::with_capacity(alloc, values.len())?;
     for value in values {
