@@ -1,11 +1,14 @@
 //! The functions on lists of values, in the sense of the multivalue functions of the ES|QL language reference. A list
 //! without values stands for null.
 
-ghost use Rattle.std.specs.Prelude.{◌≡◌, ◌++◌, pos, length, IfOk, OnOk};
+ghost use Rattle.std.specs.Prelude.{◌≡◌, ◌≢◌, ◌++◌, pos, length, map, IfNone, IfOk, IfSome, OnOk};
 ghost use Rattle.std.specs.Option.{option_copied, option_to_list};
 ghost use Rattle.std.specs.Bool.{Decides};
-ghost use Rattle.esql_types.specs.Values.{value_cmp};
+ghost use Rattle.std.specs.List.{Any};
+ghost use Rattle.esql_types.specs.Values.{kind_of_value, value_cmp};
+ghost use Rattle.esql_types.specs.declared.value.Kind.TheVariants.{Integer, Long as LongKind};
 ghost use Rattle.esql_types.specs.declared.value.Value.{Value as PlainValue};
+ghost use Rattle.esql_types.specs.declared.value.Value.TheVariants.{Int, Long};
 ghost use Rattle.function_rules.specs.Lists.{count_of, distinct_of, first_of, greatest_of, last_of, least_of, place_of, slice_of, sorted_by};
 ghost use Rattle.plain_functions.specs.Values.{directed_cmp, value_same};
 
@@ -80,6 +83,17 @@ pub fn distinct(alloc: Global, values: &[Value]) -> Result<Cell, AllocError>
 pub fn sort(alloc: Global, values: &[Value], descending: bool) -> Result<Cell, AllocError>
     ensures { IfOk result (λ cell. cell ≡ sorted_by (directed_cmp descending) values.now) }
 {
+    // The values of a cell are of one kind, so the first tells how all are sorted.
+    match values.first() {
+        Some(Value::Long(_)) => sort_longs(alloc, values, descending),
+        Some(Value::Int(_)) => sort_integers(alloc, values, descending),
+        _ => sort_values(alloc, values, descending),
+    }
+}
+
+fn sort_values(alloc: Global, values: &[Value], descending: bool) -> Result<Cell, AllocError>
+    ensures { IfOk result (λ cell. cell ≡ sorted_by (directed_cmp descending) values.now) }
+{
     let mut sorted = copies(alloc, values)?;
     sorted.sort_unstable_by(
         |left: &Value, right: &Value| -> Ordering
@@ -87,6 +101,84 @@ pub fn sort(alloc: Global, values: &[Value], descending: bool) -> Result<Cell, A
         { compare_directed(descending, left, right) },
     );
     cell_of(alloc, sorted)
+}
+
+/// Sorts as numbers the values that are all longs.
+fn sort_longs(alloc: Global, values: &[Value], descending: bool) -> Result<Cell, AllocError>
+    ensures { IfOk result (λ cell. cell ≡ sorted_by (directed_cmp descending) values.now) }
+{
+    let Some(mut numbers) = longs_in(alloc, values)? else {
+        return sort_values(alloc, values, descending);
+    };
+    numbers.sort_unstable();
+    if descending {
+        numbers.reverse();
+    }
+    cell_of_longs(alloc, &numbers)
+}
+
+/// The numbers of values that are all longs, or `None` where one is not.
+fn longs_in(alloc: Global, values: &[Value]) -> Result<Option<Vec<i64>>, AllocError>
+    ensures some { IfOk result (λ found. IfSome found (λ numbers. map Long numbers.items ≡ values.now)) }
+    ensures none { IfOk result (λ found. IfNone found (Any (λ value. kind_of_value value ≢ LongKind) values.now)) }
+{
+    let mut numbers = Vec::with_capacity(alloc, values.len())?;
+    for value in values {
+        let Value::Long(number) = value else {
+            return Ok(None);
+        };
+        numbers.push(*number)?;
+    }
+    Ok(Some(numbers))
+}
+
+fn cell_of_longs(alloc: Global, numbers: &[i64]) -> Result<Cell, AllocError>
+    ensures { IfOk result (λ cell. cell ≡ map Long numbers.now) }
+{
+    let mut cell = Cell::null(alloc);
+    for number in numbers {
+        cell.push(Value::Long(*number))?;
+    }
+    Ok(cell)
+}
+
+/// Sorts as numbers the values that are all integers.
+fn sort_integers(alloc: Global, values: &[Value], descending: bool) -> Result<Cell, AllocError>
+    ensures { IfOk result (λ cell. cell ≡ sorted_by (directed_cmp descending) values.now) }
+{
+    let Some(mut numbers) = integers_in(alloc, values)? else {
+        return sort_values(alloc, values, descending);
+    };
+    numbers.sort_unstable();
+    if descending {
+        numbers.reverse();
+    }
+    cell_of_integers(alloc, &numbers)
+}
+
+/// The numbers of values that are all integers, or `None` where one is not.
+fn integers_in(alloc: Global, values: &[Value]) -> Result<Option<Vec<i32>>, AllocError>
+    ensures some { IfOk result (λ found. IfSome found (λ numbers. map Int numbers.items ≡ values.now)) }
+    ensures none { IfOk result (λ found. IfNone found (Any (λ value. kind_of_value value ≢ Integer) values.now)) }
+{
+    let mut numbers = Vec::with_capacity(alloc, values.len())?;
+    for value in values {
+        let Value::Int(number) = value else {
+            return Ok(None);
+        };
+        numbers.push(*number)?;
+    }
+    Ok(Some(numbers))
+}
+
+fn cell_of_integers(alloc: Global, numbers: &[i32]) -> Result<Cell, AllocError>
+    ensures { IfOk result (λ cell. cell ≡ map Int numbers.now) }
+{
+    let mut cell = Cell::null(alloc);
+    for number in numbers {
+        cell.push(Value::Int(*number))?;
+    }
+    Ok(cell)
 }
 
 fn compare_directed(descending: bool, left: &Value, right: &Value) -> Ordering

@@ -9,7 +9,7 @@ use Rattle.function_rules.specs.Lists.{sorted_by}
 use Rattle.function_rules.proofs.ListsSorted.{sorted_once}
 use Rattle.plain_functions.specs.ValueOrder.{directed_exact, directed_total}
 use Rattle.plain_functions.specs.Values.{directed_cmp}
-use Rattle.plain_functions.proofs.lists.sort.Goals as goal
+use Rattle.plain_functions.proofs.lists.sort_values.Goals as goal
 
 pub returns : goal.returns
 returns c =
