@@ -1,0 +1,5 @@
+pub mod StableSorts
+pub mod KeyOrders
+pub mod NumberedRows
+pub mod KeptSteps
+pub mod Scans

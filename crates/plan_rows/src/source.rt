@@ -1,0 +1,184 @@
+ghost use Rattle.std.specs.Prelude.{◌≡◌, ◌++◌, ◌<◌, All, [], ◌∷◌, map, length, IfOk, OnOk, Option, None, replicate, slice_get, slice_index_or};
+ghost use Rattle.std.specs.List.{flat_map};
+ghost use Rattle.esql_plan.specs.declared.plan.ScanColumn.{ScanColumn as Scanned};
+ghost use Rattle.plan_semantics.specs.Tables.{source_rows, scan_table};
+ghost use Rattle.plan_rows.specs.Held.{tables_held};
+ghost use Rattle.plan_rows.specs.Kept.{rows_of, AreWide};
+ghost use Rattle.plan_rows.specs.Places.{place_from, places_of, cell_in, cells_in};
+ghost use Rattle.plan_rows.specs.Runs.{IsScanBelow};
+
+use esql_plan::{Catalog, PlanSource, ScanColumn};
+use esql_types::{Cell, Column, Seq, Text};
+use ndjson_load::Table;
+use std::alloc::{AllocError, Global};
+
+/// The rows of a source, each with so many cells.
+pub(crate) fn source_rows(
+    alloc: Global,
+    source: &PlanSource,
+    columns: u32,
+    catalog: &Catalog,
+    tables: &[Table],
+) -> Result<Seq<Seq<Cell>>, AllocError>
+    requires { IsScanBelow columns source.now }
+    ensures wide { IfOk result (AreWide columns) }
+    ensures rows { IfOk result (λ rows. rows_of rows ≡ source_rows (tables_held catalog.now tables.now) source.now) }
+{
+    match source {
+        PlanSource::OneRow => one_row(alloc, columns),
+        PlanSource::Scan {
+            tables: numbers,
+            columns: scanned,
+        } => scan(alloc, numbers.as_slice(), scanned.as_slice(), columns, catalog, tables),
+    }
+}
+
+/// One row of so many nulls.
+fn one_row(alloc: Global, columns: u32) -> Result<Seq<Seq<Cell>>, AllocError>
+    ensures { IfOk result (λ rows. rows ≡ replicate columns [] ∷ []) }
+{
+    let mut row = Seq::new(alloc);
+    for _ in 0..columns {
+        row.push(Cell::null(alloc))?;
+    }
+    let mut rows = Seq::new(alloc);
+    rows.push(row)?;
+    Ok(rows)
+}
+
+/// The rows of the tables of the numbers, one table after another.
+fn scan(
+    alloc: Global,
+    numbers: &[u32],
+    scanned: &[ScanColumn],
+    columns: u32,
+    catalog: &Catalog,
+    tables: &[Table],
+) -> Result<Seq<Seq<Cell>>, AllocError>
+    requires { All (λ (column : Scanned). column.to.0 < columns) scanned.now }
+    ensures wide { IfOk result (AreWide columns) }
+    ensures rows { IfOk result (λ rows. rows_of rows ≡ flat_map (λ number. scan_table scanned.now (slice_get (tables_held catalog.now tables.now) number)) numbers.now) }
+{
+    let mut rows = Seq::new(alloc);
+    for number in numbers {
+        add_table(alloc, *number as usize, scanned, columns, catalog, tables, &mut rows)?;
+    }
+    Ok(rows)
+}
+
+/// Adds the rows of the table of a number, which has none where it is not there.
+fn add_table(
+    alloc: Global,
+    number: usize,
+    scanned: &[ScanColumn],
+    columns: u32,
+    catalog: &Catalog,
+    tables: &[Table],
+    rows: &mut Seq<Seq<Cell>>,
+) -> Result<(), AllocError>
+    requires below { All (λ (column : Scanned). column.to.0 < columns) scanned.now }
+    requires wide { AreWide columns rows.old }
+    ensures wide { OnOk result (AreWide columns rows.new) }
+    ensures rows { OnOk result (rows_of rows.new ≡ rows_of rows.old ++ scan_table scanned.now (slice_get (tables_held catalog.now tables.now) number)) }
+{
+    match (catalog.tables.at(number), tables.get(number)) {
+        (Some(shape), Some(table)) => {
+            let places = places_of(alloc, columns, scanned, shape.columns.as_slice())?;
+            add_rows(alloc, places.as_slice(), table.as_slice(), rows)
+        }
+        (Some(_), None) => Ok(()),
+        (None, _) => Ok(()),
+    }
+}
+
+/// For each of so many column numbers, the place where a scan finds its cell in a row of a table, if it is scanned.
+fn places_of(
+    alloc: Global,
+    count: u32,
+    scanned: &[ScanColumn],
+    columns: &[Column],
+) -> Result<Seq<Option<usize>>, AllocError>
+    requires { All (λ (column : Scanned). column.to.0 < count) scanned.now }
+    ensures { IfOk result (λ places. places ≡ places_of count scanned.now columns.now) }
+{
+    let mut places = no_places(alloc, count)?;
+    for back in 0..scanned.len() {
+        let column = &scanned[scanned.len() - 1 - back];
+        places.replace(column.to.0 as usize, place_named(columns, &column.name));
+    }
+    Ok(places)
+}
+
+fn no_places(alloc: Global, count: u32) -> Result<Seq<Option<usize>>, AllocError>
+    ensures { IfOk result (λ places. places ≡ replicate count None) }
+{
+    let mut places = Seq::new(alloc);
+    for _ in 0..count {
+        places.push(None)?;
+    }
+    Ok(places)
+}
+
+/// The place of the first column of a name.
+fn place_named(columns: &[Column], name: &Text) -> Option<usize>
+    ensures { result ≡ place_from columns.now 0 name.now }
+{
+    for (place, column) in columns.iter().enumerate() {
+        if column.name.as_str() == name.as_str() {
+            return Some(place);
+        }
+    }
+    None
+}
+
+/// Adds the cells at places of each row of a table.
+fn add_rows(
+    alloc: Global,
+    places: &[Option<usize>],
+    table: &[Seq<Cell>],
+    rows: &mut Seq<Seq<Cell>>,
+) -> Result<(), AllocError>
+    ensures { OnOk result (rows.new ≡ rows.old ++ map (cells_in places.now) table.now) }
+{
+    for row in table {
+        rows.push(cells_in(alloc, places, row)?)?;
+    }
+    Ok(())
+}
+
+fn cells_in(
+    alloc: Global,
+    places: &[Option<usize>],
+    row: &Seq<Cell>,
+) -> Result<Seq<Cell>, AllocError>
+    ensures { IfOk result (λ cells. cells ≡ cells_in places.now row.now) }
+{
+    let mut cells = Seq::new(alloc);
+    for place in places {
+        cells.push(cell_in(alloc, row, *place)?)?;
+    }
+    Ok(cells)
+}
+
+fn cell_in(alloc: Global, row: &Seq<Cell>, place: Option<usize>) -> Result<Cell, AllocError>
+    ensures { IfOk result (λ cell. cell ≡ cell_in row.now place) }
+{
+    match place {
+        Some(place) => cell_of(alloc, row, place),
+        None => Ok(Cell::null(alloc)),
+    }
+}
+
+/// A copy of the cell at a place, null where there is none.
+pub(crate) fn cell_of(
+    alloc: Global,
+    row: &Seq<Cell>,
+    place: usize,
+) -> Result<Cell, AllocError>
+    ensures { IfOk result (λ cell. cell ≡ slice_index_or row.now place []) }
+{
+    match row.at(place) {
+        Some(cell) => cell.copy(),
+        None => Ok(Cell::null(alloc)),
+    }
+}
