@@ -152,6 +152,11 @@ module _ (whole free : List (List ℕ)) (columns : ℕ) where
 pub failures_of-step : (step : Step) (rows : List (List (List Value))) → kept_failures step rows ≡ step_failures step (rows_of rows)
 failures_of-step step rows = sym (flat_map-map (step_fails step) row_of rows)
 
+-- a step that never fails
+pub no_failures : (step : Step) → ((row : NumberedRow) → step_fails step row ≡ []) → (rows : List (List (List Value))) → kept_failures step rows ≡ []
+no_failures step none [] = refl
+no_failures step none (row ∷ rows) = λ i. none (row_of row) i ++ no_failures step none rows i
+
 -- plans that are well formed -----------------------------------------------------------------------------------------------------
 
 can_run : (bounds : Bounds) (made : List MadeColumn) (step : Step) → StepStands bounds made step → CanRun bounds.whole bounds.free bounds.columns step

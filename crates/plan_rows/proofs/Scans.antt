@@ -1,9 +1,9 @@
 -- The rows that a scan takes of tables.
-use Rattle.std.proofs.Common.{◌≡◌, ℕ, zero, suc, ◌+◌, ◌<◌, Bool, true, false, List, [], ◌∷◌, ◌++◌, length, get_or, set, replicate, map, All, Option, Some, None, refl, ap, sym, ◌∙◌, arith, zero-add}
+use Rattle.std.proofs.Common.{◌≡◌, ℕ, zero, suc, ◌+◌, ◌<◌, Bool, true, false, List, [], ◌∷◌, ◌++◌, length, get_or, set, replicate, map, All, Option, Some, None, refl, ap, sym, subst, ◌∙◌, arith, zero-add}
 use Rattle.std.specs.Prelude.{if◌then◌else◌, slice_get}
 use Rattle.std.specs.Str.{bytes_eq}
-use Rattle.std.proofs.lemmas.List.{length-set, length-map, length-replicate, map-set}
-use Rattle.std.proofs.lemmas.List.Elements.{All-head, All-tail}
+use Rattle.std.proofs.lemmas.List.{length-set, length-map, length-replicate, map-set, map-append, append-nil}
+use Rattle.std.proofs.lemmas.List.Elements.{All-nil, All-cons, All-head, All-tail, All-append}
 use Rattle.esql_types.specs.declared.value.Value.{Value}
 use Rattle.esql_types.specs.declared.names.Column.{Column}
 use Rattle.esql_plan.specs.declared.catalog.TableShape.{TableShape}
@@ -49,10 +49,10 @@ module _ (whole : List (List Value)) (name : List ℕ) where
   cell_in-named : (columns : List Column) → cell_in whole (place_from columns 0 name) ≡ cell_named columns whole name
   cell_in-named columns = named_from columns 0 whole (λ k. ap (λ n. get_or whole n []) (zero-add k))
 
-abbrev IsScannedBelow : ℕ → ScanColumn → Type 0
+abbrev pub IsScannedBelow : ℕ → ScanColumn → Type 0
 IsScannedBelow count column = column.to.0 < count
 
-length-places_of : (count : ℕ) (scanned : List ScanColumn) (columns : List Column) → length (places_of count scanned columns) ≡ count
+pub length-places_of : (count : ℕ) (scanned : List ScanColumn) (columns : List Column) → length (places_of count scanned columns) ≡ count
 length-places_of count [] columns = length-replicate count None
 length-places_of count (one ∷ more) columns = length-set (places_of count more columns) one.to.0 (place_from columns 0 one.name) ∙ length-places_of count more columns
 
@@ -108,3 +108,33 @@ without_rows [] tables number none = refl
 without_rows (one ∷ shapes) [] number none = refl
 without_rows (one ∷ shapes) (these ∷ tables) zero none = absurd cc
 without_rows (one ∷ shapes) (these ∷ tables) (suc number) none = without_rows shapes tables number none
+
+-- the rows of a table behind those before
+abbrev IsLong : ℕ → List (List Value) → Type 0
+IsLong count row = length row ≡ count
+
+all_long : (count : ℕ) (scanned : List ScanColumn) (columns : List Column) (table : List (List (List Value))) → AreWide count (map (cells_in (places_of count scanned columns)) table)
+all_long count scanned columns [] = All-nil (IsLong count)
+all_long count scanned columns (cells ∷ table) =
+    All-cons (IsLong count) (cells_in (places_of count scanned columns) cells) (map (cells_in (places_of count scanned columns)) table)
+    (length-cells_in count scanned columns cells) (all_long count scanned columns table)
+
+module _ (count : ℕ) (scanned : List ScanColumn) (shape : TableShape) (before table after : List (List (List Value))) (places : List (Option ℕ))
+    (are : places ≡ places_of count scanned shape.columns) (made : after ≡ before ++ map (cells_in places) table) where
+  made_so : after ≡ before ++ map (cells_in (places_of count scanned shape.columns)) table
+  made_so = made ∙ ap (λ (these : List (Option ℕ)). before ++ map (cells_in these) table) are
+
+  pub wide_more : AreWide count before → AreWide count after
+  wide_more wide = subst (AreWide count) (sym made_so)
+      (All-append (IsLong count) before (map (cells_in (places_of count scanned shape.columns)) table) wide (all_long count scanned shape.columns table))
+
+  pub rows_more : All (IsScannedBelow count) scanned → (held : Option TableHeld) → held ≡ Some (record { shape = shape; rows = table })
+      → rows_of after ≡ rows_of before ++ scan_table scanned held
+  rows_more below held is =
+      ap rows_of made_so
+      ∙ map-append row_of before (map (cells_in (places_of count scanned shape.columns)) table)
+      ∙ ap (λ (these : List NumberedRow). rows_of before ++ these) (rows_of-cells_in count scanned shape.columns table below)
+      ∙ ap (λ (one : Option TableHeld). rows_of before ++ scan_table scanned one) (sym is)
+
+pub none_more : (scanned : List ScanColumn) (before : List NumberedRow) (held : Option TableHeld) → held ≡ None → before ≡ before ++ scan_table scanned held
+none_more scanned before held is = sym (append-nil before) ∙ ap (λ (one : Option TableHeld). before ++ scan_table scanned one) (sym is)

@@ -7,5 +7,7 @@ mod order;
 mod run;
 mod source;
 mod steps;
+#[cfg(test)]
+mod tests;
 
 pub use run::run_plan;

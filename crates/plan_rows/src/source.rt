@@ -1,5 +1,9 @@
-ghost use Rattle.std.specs.Prelude.{◌≡◌, ◌++◌, ◌<◌, All, [], ◌∷◌, map, length, IfOk, OnOk, Option, None, replicate, slice_get, slice_index_or};
+ghost use Rattle.std.specs.Prelude.{◌≡◌, ◌++◌, ◌<◌, All, [], ◌∷◌, map, length, IfOk, OnOk, ℕ, List, None, replicate, slice_get, slice_index_or};
+ghost use Rattle.std.specs.BTreeMap.{get_by};
+ghost use Rattle.std.specs.Cmp.Lexicographic.{slice_cmp};
 ghost use Rattle.std.specs.List.{flat_map};
+ghost use Rattle.std.specs.Option.{option_copied};
+ghost use Rattle.std.specs.Ordering.{nat_cmp};
 ghost use Rattle.esql_plan.specs.declared.plan.ScanColumn.{ScanColumn as Scanned};
 ghost use Rattle.plan_semantics.specs.Tables.{source_rows, scan_table};
 ghost use Rattle.plan_rows.specs.Held.{tables_held};
@@ -11,6 +15,7 @@ use esql_plan::{Catalog, PlanSource, ScanColumn};
 use esql_types::{Cell, Column, Seq, Text};
 use ndjson_load::Table;
 use std::alloc::{AllocError, Global};
+use std::collections::BTreeMap;
 
 /// The rows of a source, each with so many cells.
 pub(crate) fn source_rows(
@@ -81,7 +86,7 @@ fn add_table(
     ensures wide { OnOk result (AreWide columns rows.new) }
     ensures rows { OnOk result (rows_of rows.new ≡ rows_of rows.old ++ scan_table scanned.now (slice_get (tables_held catalog.now tables.now) number)) }
 {
-    match (catalog.tables.at(number), tables.get(number)) {
+    match (catalog.tables.at(number), table_at(tables, number)) {
         (Some(shape), Some(table)) => {
             let places = places_of(alloc, columns, scanned, shape.columns.as_slice())?;
             add_rows(alloc, places.as_slice(), table.as_slice(), rows)
@@ -89,6 +94,12 @@ fn add_table(
         (Some(_), None) => Ok(()),
         (None, _) => Ok(()),
     }
+}
+
+fn table_at(tables: &[Table], number: usize) -> Option<&Table>
+    ensures { option_copied result ≡ slice_get tables.now number }
+{
+    tables.get(number)
 }
 
 /// For each of so many column numbers, the place where a scan finds its cell in a row of a table, if it is scanned.
@@ -101,10 +112,12 @@ fn places_of(
     requires { All (λ (column : Scanned). column.to.0 < count) scanned.now }
     ensures { IfOk result (λ places. places ≡ places_of count scanned.now columns.now) }
 {
+    let named = places_by_name(alloc, columns)?;
     let mut places = no_places(alloc, count)?;
     for back in 0..scanned.len() {
         let column = &scanned[scanned.len() - 1 - back];
-        places.replace(column.to.0 as usize, place_named(columns, &column.name));
+        let place = place_named(&named, &column.name);
+        places.replace(column.to.0 as usize, place);
     }
     Ok(places)
 }
@@ -119,16 +132,26 @@ fn no_places(alloc: Global, count: u32) -> Result<Seq<Option<usize>>, AllocError
     Ok(places)
 }
 
-/// The place of the first column of a name.
-fn place_named(columns: &[Column], name: &Text) -> Option<usize>
-    ensures { result ≡ place_from columns.now 0 name.now }
+/// The place of the first column of each name.
+fn places_by_name<'a>(
+    alloc: Global,
+    columns: &'a [Column],
+) -> Result<BTreeMap<&'a str, usize>, AllocError>
+    ensures { IfOk result (λ named. (name : List ℕ) →
+        get_by (λ key. slice_cmp nat_cmp name key.now) named ≡ place_from columns.now 0 name) }
 {
-    for (place, column) in columns.iter().enumerate() {
-        if column.name.as_str() == name.as_str() {
-            return Some(place);
-        }
+    let mut named = BTreeMap::new(alloc);
+    for back in 0..columns.len() {
+        let place = columns.len() - 1 - back;
+        named.insert(columns[place].name.as_str(), place)?;
     }
-    None
+    Ok(named)
+}
+
+fn place_named(named: &BTreeMap<&str, usize>, name: &Text) -> Option<usize>
+    ensures { result ≡ get_by (λ key. slice_cmp nat_cmp name.now key.now) named.now }
+{
+    named.get(name.as_str()).copied()
 }
 
 /// Adds the cells at places of each row of a table.

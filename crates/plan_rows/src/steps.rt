@@ -1,4 +1,4 @@
-ghost use Rattle.std.specs.Prelude.{◌≡◌, ◌++◌, ◌∷◌, [], ◌<◌, map, length, IfOk, OnOk, slice_set, slice_index_or};
+ghost use Rattle.std.specs.Prelude.{◌≡◌, ◌++◌, ◌∷◌, [], ◌<◌, if◌then◌else◌, length, IfOk, OnOk, slice_set, slice_index_or};
 ghost use Rattle.std.specs.List.{flat_map};
 ghost use Rattle.esql_plan.specs.declared.step.Step.TheVariants.{Eval, Filter, Expand};
 ghost use Rattle.esql_plan.specs.Fits.{ExprFits};
@@ -37,10 +37,9 @@ pub(crate) fn eval_rows(
     ensures nodes { OnOk result (length log.new ≡ length log.old) }
 {
     let mut new = Seq::new(alloc);
-    for mut row in rows.into_vec() {
+    for row in rows.into_vec() {
         let cell = value_noted(alloc, expr, &row, patterns, log)?;
-        row.replace(to.0 as usize, cell);
-        new.push(row)?;
+        add_row(row, to, cell, &mut new)?;
     }
     Ok(new)
 }
