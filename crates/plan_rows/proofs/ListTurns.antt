@@ -2,10 +2,14 @@
 use Rattle.std.proofs.Common.{◌≡◌, ℕ, ◌+◌, ◌<◌, List, [], ◌∷◌, ◌++◌, length, get_or, take, map, ap, sym, ◌∙◌, append_assoc}
 use Rattle.std.specs.List.{flat_map}
 use Rattle.std.proofs.lemmas.List.{map-append, take_more}
+use Rattle.std.proofs.lemmas.List.Sums.{fold-append}
 use Rattle.esql_types.specs.declared.cause.Cause.{Cause}
 use Rattle.esql_types.specs.declared.cause.Failure.{Failure}
-use Rattle.warn_log.specs.Logs.{logged}
-use Rattle.warn_log.proofs.Kept.{logged-append}
+use Rattle.warn_log.specs.Logs.{noted, logged}
+
+-- failures after failures
+pub logged-append : (log : List (List Cause)) (first second : List Failure) → logged (logged log first) second ≡ logged log (first ++ second)
+logged-append log first second = sym (fold-append noted log first second)
 
 -- what is made of the items so far, and of the next one
 pub gives_turn : {A B : Type 0} (f : A → List B) (before after : List B) (item : A) (rest items whole : List A)

@@ -86,9 +86,9 @@ module _ {Item : Type 0} (order : Item → Item → Ordering) (total : IsTotalOr
       (λ before.
       let P : Item → Type 0 = λ other. ties less left other ≡ false in
       let beyond : (other : Item) → less other right ≡ false → P other = λ other least. apart left other (by_truth (less left other) (λ e. e)
-          (λ fails. absurd (true≢false (sym before ∙ weak.chain left other right fails least)))) in
+      (λ fails. absurd (true≢false (sym before ∙ weak.chain left other right fails least)))) in
       let none : filter (ties less left) (right ∷ rights) ≡ [] = none_kept (ties less left) (right ∷ rights)
-          (All-cons P right rights (apart left right before) (λ k d within. beyond (get_or rights k d) (least_first right rights up k d within))) in
+      (All-cons P right rights (apart left right before) (λ k d within. beyond (get_or rights k d) (least_first right rights up k d within))) in
       absurd (let no : left ∷ filter (ties less left) lefts ≡ [] =
       sym (first_kept (ties less left) left lefts (tied left left (itself left) (itself left))) ∙ same ∙ none in cc))
       (λ e. e)
@@ -106,7 +106,7 @@ module _ {Item : Type 0} (order : Item → Item → Ordering) (total : IsTotalOr
       sym (first_kept (ties less left) left lefts (tied left left (itself left) (itself left))) ∙ same left ∙ first_kept (ties less left) right rights (tied left right here there) in
       let head : left ≡ right = cc in
       let rest = same_ties lefts rights (rest_sorted left lefts up) (rest_sorted right rights up')
-          (λ item. rest_same (ties less item) left right lefts rights head (same item)) in
+      (λ item. rest_same (ties less item) left right lefts rights head (same item)) in
       ap (λ x. x ∷ lefts) head ∙ ap (λ xs. right ∷ xs) rest
 
   moved : (tie item first : Item) (rest : List Item) (later : Bool) → is_gt (order item first) ≡ later

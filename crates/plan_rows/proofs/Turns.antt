@@ -11,10 +11,10 @@ use Rattle.esql_plan.specs.Values.{NumberedRow}
 use Rattle.plan_semantics.specs.Steps.{step_rows, step_failures, rows_after, failures_after}
 use Rattle.plan_semantics.specs.WellFormed.{Bounds, SourceStands}
 use Rattle.warn_log.specs.Logs.{logged}
-use Rattle.warn_log.proofs.Kept.{logged-append}
 use Rattle.plan_rows.specs.Kept.{rows_of, AreWide, kept_rows, kept_failures}
 use Rattle.plan_rows.specs.Runs.{CanRun, IsScanBelow}
 use Rattle.plan_rows.proofs.KeptSteps.{rows_of-step, failures_of-step}
+use Rattle.plan_rows.proofs.ListTurns.{logged-append}
 
 next_step : (steps : List Step) (place : ℕ) (step : Step) → place < length steps → step ≡ get_or steps place step → drop place steps ≡ step ∷ drop (place + 1) steps
 next_step steps place step within is =

@@ -52,7 +52,11 @@ fn compare_at(key: PlanKey, left: &Seq<Cell>, right: &Seq<Cell>) -> Ordering
     ensures { result ≡ order_of_cells key (slice_index_or left.now key.id.0 []) (slice_index_or right.now key.id.0 []) }
 {
     let place = key.id.0 as usize;
-    compare_keys(key, sort_value(key, left.at(place)), sort_value(key, right.at(place)))
+    compare_keys(
+        key,
+        sort_value(key, left.at(place)),
+        sort_value(key, right.at(place)),
+    )
 }
 
 /// The value that a cell is sorted by, which null has not.
@@ -88,5 +92,9 @@ fn compare_keys(key: PlanKey, left: Option<&Value>, right: Option<&Value>) -> Or
 fn null_order(first: bool) -> Ordering
     ensures { result ≡ null_order first }
 {
-    if first { Ordering::Less } else { Ordering::Greater }
+    if first {
+        Ordering::Less
+    } else {
+        Ordering::Greater
+    }
 }

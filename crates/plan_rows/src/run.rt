@@ -39,7 +39,14 @@ pub fn run_plan(
     ensures nodes { OnOk result (length log.new ≡ length log.old) }
 {
     let rows = source_rows(alloc, &plan.source, plan.columns, catalog, tables)?;
-    let rows = run_steps(alloc, plan.steps.as_slice(), plan.columns, rows, patterns, log)?;
+    let rows = run_steps(
+        alloc,
+        plan.steps.as_slice(),
+        plan.columns,
+        rows,
+        patterns,
+        log,
+    )?;
     shown_rows(alloc, plan.output.as_slice(), rows.as_slice())
 }
 
@@ -116,11 +123,7 @@ fn shown_rows(
     Ok(shown)
 }
 
-fn shown_row(
-    alloc: Global,
-    output: &[OutColumn],
-    row: &Seq<Cell>,
-) -> Result<Seq<Cell>, AllocError>
+fn shown_row(alloc: Global, output: &[OutColumn], row: &Seq<Cell>) -> Result<Seq<Cell>, AllocError>
     ensures { IfOk result (λ shown. shown ≡ shown_row output.now (row_of row.now)) }
 {
     let mut shown = Seq::new(alloc);

@@ -34,7 +34,14 @@ pub(crate) fn source_rows(
         PlanSource::Scan {
             tables: numbers,
             columns: scanned,
-        } => scan(alloc, numbers.as_slice(), scanned.as_slice(), columns, catalog, tables),
+        } => scan(
+            alloc,
+            numbers.as_slice(),
+            scanned.as_slice(),
+            columns,
+            catalog,
+            tables,
+        ),
     }
 }
 
@@ -66,7 +73,15 @@ fn scan(
 {
     let mut rows = Seq::new(alloc);
     for number in numbers {
-        add_table(alloc, *number as usize, scanned, columns, catalog, tables, &mut rows)?;
+        add_table(
+            alloc,
+            *number as usize,
+            scanned,
+            columns,
+            catalog,
+            tables,
+            &mut rows,
+        )?;
     }
     Ok(rows)
 }
@@ -193,11 +208,7 @@ fn cell_in(alloc: Global, row: &Seq<Cell>, place: Option<usize>) -> Result<Cell,
 }
 
 /// A copy of the cell at a place, null where there is none.
-pub(crate) fn cell_of(
-    alloc: Global,
-    row: &Seq<Cell>,
-    place: usize,
-) -> Result<Cell, AllocError>
+pub(crate) fn cell_of(alloc: Global, row: &Seq<Cell>, place: usize) -> Result<Cell, AllocError>
     ensures { IfOk result (λ cell. cell ≡ slice_index_or row.now place []) }
 {
     match row.at(place) {

@@ -130,11 +130,7 @@ fn is_true(cell: &Cell) -> bool
     }
 }
 
-fn keep_row(
-    row: Seq<Cell>,
-    is_kept: bool,
-    kept: &mut Seq<Seq<Cell>>,
-) -> Result<(), AllocError>
+fn keep_row(row: Seq<Cell>, is_kept: bool, kept: &mut Seq<Seq<Cell>>) -> Result<(), AllocError>
     ensures { OnOk result (kept.new ≡ kept.old ++ (if is_kept then row ∷ [] else [])) }
 {
     if is_kept {
@@ -176,7 +172,12 @@ fn expand_row(
         return add_row(row, to, cell, new);
     }
     for value in cell.as_slice() {
-        add_row(copied(alloc, &row)?, to, Cell::one(alloc, value.copy()?), new)?;
+        add_row(
+            copied(alloc, &row)?,
+            to,
+            Cell::one(alloc, value.copy()?),
+            new,
+        )?;
     }
     Ok(())
 }

@@ -16,8 +16,8 @@ loop-step-preserved c =
     let place = c.loop-step.step-index in
     let step = c.step-item.result in
     let rows = c.loop-step.rows in
-    let new = c.in_ok-run_step.field-0 in
-    let made = c.in_ok-run_step.ensures.rows in
+    let new = c.in_ok-rows.rows in
+    let made = c.in_ok-rows.ensures.rows in
     let within : place < length steps = omega arith in
     let run : CanRun whole free columns step =
     subst (CanRun whole free columns) (sym c.step-item.is) (All-get_or (CanRun whole free columns) steps place step within c.requires.run) in
@@ -25,7 +25,7 @@ loop-step-preserved c =
     record {
       wide = subst (AreWide columns) (sym made) (wide-step whole free columns step rows wide);
       rows = rows_turn whole free columns steps place step rows new within c.step-item.is run wide made ∙ c.loop-step.invariant.rows;
-      log = log_turn whole free columns steps place step rows new within c.step-item.is run wide made c.loop-step.log c.run_step.new.log c.in_ok-run_step.ensures.log
+      log = log_turn whole free columns steps place step rows new within c.step-item.is run wide made c.loop-step.log c.run_step.new.log c.in_ok-rows.ensures.log
           ∙ c.loop-step.invariant.log;
-      nodes = c.in_ok-run_step.ensures.nodes ∙ c.loop-step.invariant.nodes;
+      nodes = c.in_ok-rows.ensures.nodes ∙ c.loop-step.invariant.nodes;
     }
