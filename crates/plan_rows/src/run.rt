@@ -126,9 +126,9 @@ fn shown_rows(
 fn shown_row(alloc: Global, output: &[OutColumn], row: &Seq<Cell>) -> Result<Seq<Cell>, AllocError>
     ensures { IfOk result (λ shown. shown ≡ shown_row output.now (row_of row.now)) }
 {
-    let mut shown = Seq::new(alloc);
+    let mut shown = Vec::with_capacity(alloc, output.len())?;
     for column in output {
         shown.push(cell_of(alloc, row, column.id.0 as usize)?)?;
     }
-    Ok(shown)
+    Ok(Seq::from_vec(shown))
 }

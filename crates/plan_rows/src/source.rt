@@ -191,11 +191,11 @@ fn cells_in(
 ) -> Result<Seq<Cell>, AllocError>
     ensures { IfOk result (λ cells. cells ≡ cells_in places.now row.now) }
 {
-    let mut cells = Seq::new(alloc);
+    let mut cells = Vec::with_capacity(alloc, places.len())?;
     for place in places {
         cells.push(cell_in(alloc, row, *place)?)?;
     }
-    Ok(cells)
+    Ok(Seq::from_vec(cells))
 }
 
 fn cell_in(alloc: Global, row: &Seq<Cell>, place: Option<usize>) -> Result<Cell, AllocError>

@@ -199,9 +199,9 @@ fn add_row(
 fn copied(alloc: Global, row: &Seq<Cell>) -> Result<Seq<Cell>, AllocError>
     ensures { IfOk result (λ copy. copy ≡ row.now) }
 {
-    let mut copy = Seq::new(alloc);
+    let mut copy = Vec::with_capacity(alloc, row.len())?;
     for cell in row.as_slice() {
         copy.push(cell.copy()?)?;
     }
-    Ok(copy)
+    Ok(Seq::from_vec(copy))
 }
