@@ -1,0 +1,30 @@
+-- Rows of cells as rows of numbered columns.
+use Rattle.std.proofs.Common.{◌≡◌, ℕ, zero, suc, ◌<◌, ◌==◌, Bool, true, false, List, [], ◌∷◌, length, get_or, set, replicate, map, refl, ap, arith}
+use Rattle.std.specs.Prelude.{if◌then◌else◌}
+use Rattle.std.proofs.lemmas.Bool.Decides.{nat_tests}
+use Rattle.std.proofs.lemmas.List.{get_or-set_same, get_or-set_other}
+use Rattle.esql_types.specs.declared.value.Value.{Value}
+use Rattle.esql_scalar.specs.Rows.{row_of}
+use Rattle.plan_semantics.specs.Tables.{empty_row, with_cell}
+
+null_everywhere : (columns id : ℕ) → get_or (replicate {A = List Value} columns []) id [] ≡ []
+null_everywhere zero id = refl
+null_everywhere (suc columns) zero = refl
+null_everywhere (suc columns) (suc id) = null_everywhere columns id
+
+-- a row of nulls
+pub row_of-nulls : (columns : ℕ) → row_of (replicate columns []) ≡ empty_row
+row_of-nulls columns = λ i id. null_everywhere columns id i
+
+cell_at : (cells : List (List Value)) (id : ℕ) (cell : List Value) (other : ℕ) → id < length cells
+    → get_or (set cells id cell) other [] ≡ (if other == id then cell else get_or cells other [])
+cell_at cells id cell other within = by_case (other == id) refl where
+  by_case : (b : Bool) → other == id ≡ b → get_or (set cells id cell) other [] ≡ (if b then cell else get_or cells other [])
+  by_case true is =
+      let same : other ≡ id = grind (arith, nat_tests, is) in
+      rw same (get_or-set_same cells id cell [] within)
+  by_case false is = get_or-set_other cells id other cell [] (λ same. grind (arith, nat_tests, is, same))
+
+-- a row with another cell at a place
+pub row_of-set : (cells : List (List Value)) (id : ℕ) (cell : List Value) → id < length cells → row_of (set cells id cell) ≡ with_cell (row_of cells) id cell
+row_of-set cells id cell within = λ i other. cell_at cells id cell other within i

@@ -1,0 +1,5 @@
+use Rattle.std.proofs.Common.{◌≡◌, None, replicate}
+use Rattle.plan_rows.proofs.source.no_places.Given as goal
+
+abbrev pub invariant-loop : goal.invariant-loop
+invariant-loop l = l.places ≡ replicate l.counter None

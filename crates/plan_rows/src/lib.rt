@@ -1,0 +1,13 @@
+//! A plan run over rows: all rows of its tables put through its steps, one step after another.
+//!
+//! Read its specs in this order: `Held`, `Places`, `Kept`, `Runs`.
+#![tactic(auto)]
+
+mod order;
+mod run;
+mod source;
+mod steps;
+#[cfg(test)]
+mod tests;
+
+pub use run::run_plan;

@@ -1,0 +1,134 @@
+ghost use Rattle.std.specs.Prelude.{◌≡◌, ◌≤◌, map, length, All, IfOk, OnOk};
+ghost use Rattle.esql_plan.specs.Values.{NumberedRow};
+ghost use Rattle.esql_scalar.specs.Rows.{row_of};
+ghost use Rattle.plan_semantics.specs.Steps.{rows_after, failures_after};
+ghost use Rattle.plan_semantics.specs.Plans.{plan_means, shown_row};
+ghost use Rattle.plan_semantics.specs.WellFormed.{IsWellFormed, AreTables};
+ghost use Rattle.warn_log.specs.Logs.{logged};
+ghost use Rattle.plan_rows.specs.Held.{tables_held};
+ghost use Rattle.plan_rows.specs.Kept.{rows_of, AreWide, kept_rows, kept_failures};
+ghost use Rattle.plan_rows.specs.Runs.{CanRun, FailsBelow};
+
+use crate::order::{first_rows, sort_rows};
+use crate::source::{cell_of, source_rows};
+use crate::steps::{eval_rows, expand_rows, filter_rows};
+use esql_plan::{Catalog, OutColumn, Plan, Step};
+use esql_types::{Cell, Seq};
+use ndjson_load::Table;
+use std::alloc::{AllocError, Global};
+use text_match::Patterns;
+use warn_log::Log;
+
+/// The rows that a plan shows of the tables of its catalog, step by step; what fails on the way is noted in the log.
+///
+/// # Errors
+/// Want of memory alone.
+pub fn run_plan(
+    alloc: Global,
+    plan: &Plan,
+    catalog: &Catalog,
+    tables: &[Table],
+    patterns: &Patterns,
+    log: &mut Log,
+) -> Result<Seq<Seq<Cell>>, AllocError>
+    requires formed { IsWellFormed catalog.now patterns.now.whole patterns.now.free plan.now }
+    requires tables { AreTables catalog.now (tables_held catalog.now tables.now) }
+    requires log { plan.now.nodes ≤ length log.old }
+    ensures rows { IfOk result (λ rows. rows ≡ (plan_means plan.now (tables_held catalog.now tables.now)).rows) }
+    ensures log { OnOk result (log.new ≡ logged log.old (plan_means plan.now (tables_held catalog.now tables.now)).failures) }
+    ensures nodes { OnOk result (length log.new ≡ length log.old) }
+{
+    let rows = source_rows(alloc, &plan.source, plan.columns, catalog, tables)?;
+    let rows = run_steps(
+        alloc,
+        plan.steps.as_slice(),
+        plan.columns,
+        rows,
+        patterns,
+        log,
+    )?;
+    shown_rows(alloc, plan.output.as_slice(), rows.as_slice())
+}
+
+/// The rows after steps one after another, of rows that have so many columns.
+fn run_steps(
+    alloc: Global,
+    steps: &[Step],
+    columns: u32,
+    source: Seq<Seq<Cell>>,
+    patterns: &Patterns,
+    log: &mut Log,
+) -> Result<Seq<Seq<Cell>>, AllocError>
+    requires run { All (CanRun patterns.now.whole patterns.now.free columns) steps.now }
+    requires wide { AreWide columns source }
+    requires fails { All (FailsBelow (length log.old)) steps.now }
+    ensures rows { IfOk result (λ rows. rows_of rows ≡ rows_after steps.now (rows_of source)) }
+    ensures log { OnOk result (log.new ≡ logged log.old (failures_after steps.now (rows_of source))) }
+    ensures nodes { OnOk result (length log.new ≡ length log.old) }
+{
+    let mut rows = source;
+    for step in steps {
+        rows = run_step(alloc, step, columns, rows, patterns, log)?;
+    }
+    Ok(rows)
+}
+
+/// The rows after a step, of rows that have so many columns.
+fn run_step(
+    alloc: Global,
+    step: &Step,
+    columns: u32,
+    rows: Seq<Seq<Cell>>,
+    patterns: &Patterns,
+    log: &mut Log,
+) -> Result<Seq<Seq<Cell>>, AllocError>
+    requires run { CanRun patterns.now.whole patterns.now.free columns step.now }
+    requires wide { AreWide columns rows }
+    requires fails { FailsBelow (length log.old) step.now }
+    ensures rows { IfOk result (λ new. new ≡ kept_rows step.now rows) }
+    ensures log { OnOk result (log.new ≡ logged log.old (kept_failures step.now rows)) }
+    ensures nodes { OnOk result (length log.new ≡ length log.old) }
+{
+    match step {
+        Step::Eval { to, expr } => eval_rows(alloc, *to, expr, rows, patterns, log),
+        Step::Filter { node, condition } => {
+            filter_rows(alloc, *node, condition, rows, patterns, log)
+        }
+        Step::Expand { id, to } => expand_rows(alloc, *id, *to, rows),
+        Step::Sort { keys } => sort_rows(keys.as_slice(), rows),
+        Step::TopN { keys, count } => {
+            let sorted = sort_rows(keys.as_slice(), rows)?;
+            Ok(first_rows(sorted, *count))
+        }
+        Step::Limit { count } => Ok(first_rows(rows, *count)),
+        Step::Stats { .. } => unreachable!(),
+        Step::Dissect { .. } => unreachable!(),
+        Step::Grok { .. } => unreachable!(),
+        Step::Enrich { .. } => unreachable!(),
+    }
+}
+
+/// The cells of the columns that are shown, of each row.
+fn shown_rows(
+    alloc: Global,
+    output: &[OutColumn],
+    rows: &[Seq<Cell>],
+) -> Result<Seq<Seq<Cell>>, AllocError>
+    ensures { IfOk result (λ shown. shown ≡ map (shown_row output.now) (rows_of rows.now)) }
+{
+    let mut shown = Seq::new(alloc);
+    for row in rows {
+        shown.push(shown_row(alloc, output, row)?)?;
+    }
+    Ok(shown)
+}
+
+fn shown_row(alloc: Global, output: &[OutColumn], row: &Seq<Cell>) -> Result<Seq<Cell>, AllocError>
+    ensures { IfOk result (λ shown. shown ≡ shown_row output.now (row_of row.now)) }
+{
+    let mut shown = Vec::with_capacity(alloc, output.len())?;
+    for column in output {
+        shown.push(cell_of(alloc, row, column.id.0 as usize)?)?;
+    }
+    Ok(Seq::from_vec(shown))
+}
