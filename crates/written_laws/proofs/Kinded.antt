@@ -26,15 +26,15 @@ pub record StandsOver (visible : Visible) (scope : Scope) : Type 0 where
   pub outside : scope.standing ≡ elsewhere
 
 -- the typed form of an expression and its kind, which is that of the typed form
-record Both : Type 0 where
-  typing : Typing
-  judged : Judged
-  is : (visible : Visible) (scope : Scope) (kind : Kind) → StandsOver visible scope → judged scope ≡ Ok kind → (whole free : ℕ) → (typing.at visible whole free).kind ≡ kind
+pub record Both : Type 0 where
+  pub typing : Typing
+  pub judged : Judged
+  pub is : (visible : Visible) (scope : Scope) (kind : Kind) → StandsOver visible scope → judged scope ≡ Ok kind → (whole free : ℕ) → (typing.at visible whole free).kind ≡ kind
 
-abbrev typing_in : Both → Typing
+abbrev pub typing_in : Both → Typing
 typing_in both = both.typing
 
-abbrev judged_in : Both → Judged
+abbrev pub judged_in : Both → Judged
 judged_in both = both.judged
 
 pub ok_is : {A : Type 0} {this that : A} → ◌≡◌ {A = Result A Broken} (Ok this) (Ok that) → this ≡ that
@@ -59,13 +59,13 @@ column_kinded node name span (column ∷ visible) kind is =
     [ true ↦ λ here. ok_is here | false ↦ λ there. column_kinded node name span visible kind there ] is
 
 -- the kinds of parts
-abbrev PartsHave : Visible → List (Part Both) → List Kind → Type 0
+abbrev pub PartsHave : Visible → List (Part Both) → List Kind → Type 0
 PartsHave visible [] [] = Unit {0}
 PartsHave visible [] (kind ∷ kinds) = ⊥
 PartsHave visible (part ∷ parts) [] = ⊥
 PartsHave visible (part ∷ parts) (kind ∷ kinds) = ((whole free : ℕ) → (part.reading.typing.at visible whole free).kind ≡ kind) × PartsHave visible parts kinds
 
-parts_kinded : (visible : Visible) (scope : Scope) (parts : List (Part Both)) (kinds : List Kind) → StandsOver visible scope → kinds_of_parts (parts_with judged_in parts) scope ≡ Ok kinds
+pub parts_kinded : (visible : Visible) (scope : Scope) (parts : List (Part Both)) (kinds : List Kind) → StandsOver visible scope → kinds_of_parts (parts_with judged_in parts) scope ≡ Ok kinds
     → PartsHave visible parts kinds
 parts_kinded visible scope [] [] stands is = tt
 parts_kinded visible scope [] (kind ∷ kinds) stands is = absurd cc
@@ -75,7 +75,7 @@ parts_kinded visible scope (part ∷ parts) kinds stands is =
     subst (PartsHave visible (part ∷ parts)) (ok_is rest.next_is)
     (part.reading.is visible scope first.value stands first.is, parts_kinded visible scope parts rest.value stands rest.is)
 
-arguments_have : (visible : Visible) (function : Function) (parts : List (Part Both)) (kinds : List Kind) → PartsHave visible parts kinds
+pub arguments_have : (visible : Visible) (function : Function) (parts : List (Part Both)) (kinds : List Kind) → PartsHave visible parts kinds
     → PartsHave visible (arguments_in_plan function parts) (arguments_in_plan function kinds)
 arguments_have visible function.MvSort (part ∷ parts) (kind ∷ kinds) have = (have.0, tt)
 arguments_have visible function.MvSort [] [] have = have
@@ -83,7 +83,7 @@ arguments_have visible function.MvSort [] (kind ∷ kinds) have = absurd have
 arguments_have visible function.MvSort (part ∷ parts) [] have = absurd have
 arguments_have visible other parts kinds have = have
 
-kinds_typed : (visible : Visible) (parts : List (Part Both)) (kinds : List Kind) (whole free : ℕ) → PartsHave visible parts kinds
+pub kinds_typed : (visible : Visible) (parts : List (Part Both)) (kinds : List Kind) (whole free : ℕ) → PartsHave visible parts kinds
     → map (λ (arg : TypedExpr). arg.kind) (typed_parts (parts_with typing_in parts) visible whole free) ≡ kinds
 kinds_typed visible [] [] whole free have = refl
 kinds_typed visible [] (kind ∷ kinds) whole free have = absurd have
@@ -117,7 +117,7 @@ applied_kinded node span function parts visible scope kind stands is whole free 
     ∙ (λ i. kind_of_call (sym (function_with judged_in function parts) i) (arguments_in_plan function found.value))
     ∙ accepted_is _ scope _ kind (fitting_is _ _ span _ kind found.next_is)
 
-outside_kinded : (node : NodeId) (span : Span) (seen : Seen Both) (visible : Visible) (scope : Scope) (kind : Kind) → StandsOver visible scope
+pub outside_kinded : (node : NodeId) (span : Span) (seen : Seen Both) (visible : Visible) (scope : Scope) (kind : Kind) → StandsOver visible scope
     → judged node span (seen_with judged_in seen) scope ≡ Ok kind → (whole free : ℕ) → ((typing node span (seen_with typing_in seen)).at visible whole free).kind ≡ kind
 outside_kinded node span (constant values own) visible scope kind stands is whole free = ok_is is
 outside_kinded node span (named name) visible scope kind stands is whole free =
@@ -129,7 +129,7 @@ outside_kinded node span (aggregate function star parts) visible scope kind stan
 outside_kinded node span (refused parts rule at) visible scope kind stands is whole free =
     let found = found_of (kinds_of_parts (parts_with judged_in parts) scope) _ kind is in absurd (let last = found.next_is in cc)
 
-abbrev both : Reader Both
+abbrev pub both : Reader Both
 both node span seen = record {
   typing = typing node span (seen_with typing_in seen);
   judged = judged node span (seen_with judged_in seen);

@@ -16,3 +16,14 @@ pub mod NodesTyped
 pub mod NodesCounted
 pub mod NodesWritten
 pub mod Orderly
+pub mod Numbers
+pub mod RowsFit
+pub mod WantsFit
+pub mod CallsFit
+pub mod KindsOfValues
+pub mod ExprsFit
+pub mod ColumnsTyped
+pub mod StepsFormed
+pub mod TablesScanned
+pub mod SourceFormed
+pub mod Formed

@@ -1,5 +1,5 @@
 -- Each node is as often among the functions in an expression at most as among the expression's nodes.
-use Rattle.std.proofs.Common.{◌≡◌, ℕ, ◌+◌, ◌≤◌, ◌==◌, Bool, true, false, cond, List, [], ◌∷◌, ◌++◌, map, Option, Some, None, refl, ap, sym, subst, ◌∙◌, arith}
+use Rattle.std.proofs.Common.{◌≡◌, ℕ, ◌+◌, ◌≤◌, ◌==◌, Bool, true, false, cond, List, [], ◌∷◌, ◌++◌, map, Option, Some, None, refl, ap, subst, ◌∙◌, arith}
 use Rattle.std.specs.Prelude.{if◌then◌else◌}
 use Rattle.std.specs.List.{flat_map}
 use denote.Hole.Holds.{Such}
@@ -26,7 +26,7 @@ use Rattle.plan_semantics.specs.Parts.{count_of}
 use Rattle.plan_semantics.proofs.Transposed.{count_of-append}
 use Rattle.plan_semantics.proofs.OwnNodes.{places}
 use Rattle.row_semantics.specs.declared.rule.NameRule.TheVariants as rule
-use Rattle.row_semantics.specs.Forms.{Part, Seen, constant, named, same, applied, aggregate, refused, seen, call_by, takes, cast_by, list_in_kind, kind_of_list, constant_in, function_of, like_function, part_of_form, part_of, pattern_part, read_by, arguments_in_plan}
+use Rattle.row_semantics.specs.Forms.{Part, Seen, applied, refused, seen, call_by, cast_by, list_in_kind, kind_of_list, constant_in, function_of, like_function, part_of_form, part_of, pattern_part, read_by, arguments_in_plan}
 use Rattle.written_laws.proofs.NodesTyped.{spent, nodes_in_parts}
 
 -- how often a node is among places

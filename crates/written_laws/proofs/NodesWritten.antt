@@ -1,5 +1,5 @@
 -- Each node is as often in the steps of a written plan at most as among the nodes of the query.
-use Rattle.std.proofs.Common.{◌≡◌, ℕ, zero, suc, ◌+◌, ◌≤◌, ◌<◌, ◌==◌, Bool, true, false, cond, List, [], ◌∷◌, ◌++◌, map, length, fold, refl, ap, sym, ◌∙◌, arith}
+use Rattle.std.proofs.Common.{◌≡◌, ℕ, zero, suc, ◌+◌, ◌≤◌, ◌<◌, ◌==◌, Bool, true, false, cond, List, [], ◌∷◌, ◌++◌, map, length, fold, refl, ap, ◌∙◌, arith}
 use Rattle.std.specs.List.{flat_map, range_with_len}
 use Rattle.std.proofs.lemmas.List.{append-nil}
 use Rattle.esql_types.specs.declared.names.NodeId.{NodeId}
@@ -9,10 +9,10 @@ use Rattle.esql_ast.specs.declared.query.Field.{Field}
 use Rattle.esql_ast.specs.declared.query.Query.{Query}
 use Rattle.esql_ast.specs.declared.query.Command.{Command}
 use Rattle.esql_ast.specs.declared.query.CommandKind.{CommandKind}
-use Rattle.esql_ast.specs.declared.query.CommandKind.TheVariants.{Filter, Eval, Keep, Drop, Rename, Sort, Limit, Expand, Stats, Dissect, Grok, Enrich, Join}
+use Rattle.esql_ast.specs.declared.query.CommandKind.TheVariants.{Filter, Eval, Limit}
 use Rattle.esql_ast.specs.declared.query.SourceCommand.{SourceCommand}
 use Rattle.esql_ast.specs.declared.query.SourceCommand.TheVariants.{Tables, OneRow}
-use Rattle.esql_ast.specs.Laws.{numbers_of, IsNumbered}
+use Rattle.esql_ast.specs.Laws.{IsNumbered}
 use Rattle.esql_ast.specs.Nodes.{nodes_of_expr, nodes_of_field, nodes_of_kind, nodes_of_command, nodes_of_source, nodes_of}
 use Rattle.esql_plan.specs.declared.catalog.Catalog.{Catalog}
 use Rattle.esql_plan.specs.declared.step.Step.{Step}

@@ -48,7 +48,7 @@ either_is true broken columns after is = ok_is is
 either_is false broken columns after is = absurd cc
 
 -- a field
-field_shows : (context : Context) (field : Field) (columns after : List Column) (writing : Writing) → Shows writing columns → shape_of_field context field columns ≡ Ok after
+pub field_shows : (context : Context) (field : Field) (columns after : List Column) (writing : Writing) → Shows writing columns → shape_of_field context field columns ≡ Ok after
     → Shows (write_field context.text writing field) after
 field_shows context field columns after writing shows is =
     let scope : Scope = scope_over context columns in
@@ -98,7 +98,7 @@ kind_shows context node (Grok input pattern) columns after writing shows is = sy
 kind_shows context node (Enrich policy on fields) columns after writing shows is = sym (ok_is is) ∙ shows
 kind_shows context node (Join table on) columns after writing shows is = sym (ok_is is) ∙ shows
 
-command_shows : (context : Context) (command : Command) (columns after : List Column) (writing : Writing) → Shows writing columns → shape_of_command context command columns ≡ Ok after
+pub command_shows : (context : Context) (command : Command) (columns after : List Column) (writing : Writing) → Shows writing columns → shape_of_command context command columns ≡ Ok after
     → Shows (write_command context.text writing command) after
 command_shows context command columns after writing shows is =
     let found = found_of (shape_of_kind context command.kind columns) (unless_empty command.span) after is in

@@ -33,13 +33,13 @@ eq_above m n above = grind arith
 abbrev IsFrom : ℕ → OutColumn → Type 0
 IsFrom next column = next ≤ column.id.0
 
-all_from : (next : ℕ) (columns : List Column) → All (IsFrom next) (numbered_from next columns)
+pub all_from : (next : ℕ) (columns : List Column) → All (IsFrom next) (numbered_from next columns)
 all_from next [] = All-nil (IsFrom next)
 all_from next (column ∷ columns) =
     All-cons (IsFrom next) _ (numbered_from (next + 1) columns) (omega arith)
     (All-weaker (IsFrom (next + 1)) (IsFrom next) (λ column from. omega (arith, from)) (numbered_from (next + 1) columns) (all_from (next + 1) columns))
 
-all_below : (next last : ℕ) (columns : List Column) → next + length columns ≡ last → AllBelow last (numbered_from next columns)
+pub all_below : (next last : ℕ) (columns : List Column) → next + length columns ≡ last → AllBelow last (numbered_from next columns)
 all_below next last [] is = All-nil (IsBelow last)
 all_below next last (column ∷ columns) is =
     All-cons (IsBelow last) _ (numbered_from (next + 1) columns) (omega (arith, is)) (all_below (next + 1) last columns (omega (arith, is)))

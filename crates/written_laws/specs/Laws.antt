@@ -11,6 +11,7 @@ use Rattle.plan_semantics.specs.Tables.{TableHeld, catalog_tables}
 use Rattle.plan_semantics.specs.Agrees.{Agrees}
 use Rattle.plan_semantics.specs.Plans.{plan_means}
 use Rattle.plan_semantics.specs.Parts.{IsOrderly}
+use Rattle.plan_semantics.specs.WellFormed.{IsWellFormed}
 use Rattle.row_semantics.specs.Columns.{HaveDistinctNames}
 use Rattle.query_semantics.specs.Built.{IsBuiltQuery}
 use Rattle.query_semantics.specs.Catalogs.{IsCatalog}
@@ -18,6 +19,7 @@ use Rattle.query_semantics.specs.Commands.{rows_of_commands, failures_of_command
 use Rattle.query_semantics.specs.Meaning.{meaning_of, AreRowsOf, shown_under, rows_of_source}
 use Rattle.query_semantics.specs.Shapes.{shape_of}
 use Rattle.query_semantics.specs.Written.{written_of}
+use Rattle.written_laws.specs.Items.{HaveItems}
 
 -- the tables with their rows are those of the catalog
 abbrev pub AreTablesOf : Catalog → List TableHeld → Type 0
@@ -47,6 +49,13 @@ LimitsKeepFailures = (text : List ℕ) (tables : List TableHeld) (source : Sourc
     → limit.kind ≡ Limit count
     → (meaning_of text tables (query_of source (before ++ limit ∷ after))).failures
     ≡ (meaning_of text tables (query_of source before)).failures ++ failures_of_commands text after (take count (rows_of_commands text before (rows_of_source text tables source)))
+
+-- The plan that a query is written as, which breaks no rule, is well formed. An IN without items, which no text is parsed as, breaks no
+-- rule, and no plan has one.
+abbrev pub PlansAreWellFormed : Type 0
+PlansAreWellFormed = (text : List ℕ) (catalog : Catalog) (query : Query) (columns : List Column)
+    → IsCatalog catalog → IsNumbered query → IsBuiltQuery query → HaveItems query → shape_of text catalog query ≡ Ok columns
+    → IsWellFormed catalog (written_of text catalog query).whole (written_of text catalog query).free (written_of text catalog query).plan
 
 -- the plan that a numbered query is written as is orderly: each node fails in one part of it at most
 abbrev pub PlansAreOrderly : Type 0

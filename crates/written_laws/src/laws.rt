@@ -1,6 +1,6 @@
 //! Laws of written plans.
 
-ghost use Rattle.written_laws.specs.Laws.{PlansMeanQueries, RowsHaveTheirColumns, ColumnsDiffer, LimitsKeepFailures, PlansAreOrderly};
+ghost use Rattle.written_laws.specs.Laws.{PlansMeanQueries, RowsHaveTheirColumns, ColumnsDiffer, LimitsKeepFailures, PlansAreWellFormed, PlansAreOrderly};
 
 /// A law: a query that breaks no rule means what the plan means that it is written as: the same columns, the same rows in the
 /// same order, and the same causes at each node.
@@ -21,6 +21,12 @@ pub fn columns_differ()
 /// A law: LIMIT drops no failure of the commands before it, whatever its count is.
 pub fn limits_keep_failures()
     ensures { LimitsKeepFailures }
+{}
+
+/// A law: the plan that a query is written as, which breaks no rule, is well formed for the catalog and for the patterns that it
+/// is written with.
+pub fn plans_are_well_formed()
+    ensures { PlansAreWellFormed }
 {}
 
 /// A law: in the plan that a query is written as, each node fails in one part at most.
