@@ -1,7 +1,5 @@
 -- The typed form of an expression that breaks no rule is well formed, where its patterns stand at its numbers.
 use Rattle.std.proofs.Common.{◌≡◌, ℕ, suc, nat_le, Bool, true, false, cond, ◌&&◌, List, [], ◌∷◌, map, length, All, Option, Some, None, is_some, Ok, refl, ap, sym, subst, ◌∙◌, if◌then◌else◌, arith}
-use Rattle.std.specs.List.{list_all}
-use Rattle.std.proofs.lemmas.Bool.{and_parts}
 use Rattle.std.proofs.lemmas.Bool.Decides.{nat_tests}
 use Rattle.std.proofs.lemmas.List.Elements.{All-nil, All-cons}
 use denote.Hole.Holds.{Such}
@@ -32,7 +30,6 @@ use Rattle.row_semantics.specs.Forms.{Part, Seen, constant, named, same, applied
 use Rattle.row_semantics.specs.Scopes.{Scope}
 use Rattle.row_semantics.specs.Kinds.{Judged, judged, kind_or_rule}
 use Rattle.row_semantics.specs.Typed.{Visible, CallColumn, Typing, visible_named, call_at, typed_null, typed_column, typed_call, typing, typing_of, typed_of}
-use Rattle.written_laws.specs.Items.{some_and_all, has_items_in, has_items, HasItems}
 use Rattle.written_laws.proofs.Readings.{seen_with, read_made}
 use Rattle.written_laws.proofs.Kinded.{StandsOver, Both, typing_in, judged_in, both}
 use Rattle.written_laws.proofs.Numbers.{HasAt}
@@ -136,13 +133,13 @@ like_fits true false left pattern each given = record { each = each; count = ref
 like_fits false true left pattern each given = record { each = each; count = refl; pattern = given }
 like_fits true true left pattern each given = record { each = each; count = refl; pattern = given }
 
-at_least : (count : ℕ) → (nat_le 2 (suc (suc count)) && true) ≡ true
+at_least : (count : ℕ) → (nat_le 1 (suc count) && true) ≡ true
 at_least count = grind (arith, nat_tests)
 
-within_fits : (negated : Bool) (left first : Part Both) (rest : List (Part Both)) → All PartFits (left ∷ first ∷ rest)
-    → AppliedFits (if negated then function.NotIn else function.In) (left ∷ first ∷ rest)
-within_fits false left first rest each = record { each = each; count = at_least (length rest); pattern = tt }
-within_fits true left first rest each = record { each = each; count = at_least (length rest); pattern = tt }
+within_fits : (negated : Bool) (left : Part Both) (items : List (Part Both)) → All PartFits (left ∷ items)
+    → AppliedFits (if negated then function.NotIn else function.In) (left ∷ items)
+within_fits false left items each = record { each = each; count = at_least (length items); pattern = tt }
+within_fits true left items each = record { each = each; count = at_least (length items); pattern = tt }
 
 null_test_fits : (negated : Bool) (arg : Part Both) → All PartFits (arg ∷ []) → AppliedFits (if negated then function.IsNotNull else function.IsNull) (arg ∷ [])
 null_test_fits false arg each = record { each = each; count = refl; pattern = tt }
@@ -174,14 +171,11 @@ part_fits node span own literal form literal_is fits = record {
 abbrev in_form : Form → NodeId → Span → Part Both
 in_form = fold-Form (NodeId → Span → Part Both) (Part Both) (part_of_form both) (λ e. e.form e.node e.span)
 
-abbrev items_in : Form → Bool
-items_in = fold-Form Bool Bool has_items_in (λ e. e.form)
-
 abbrev ExprGood : Expr → Type 0
-ExprGood expr = HasItems expr → PartFits (part_of both expr)
+ExprGood expr = PartFits (part_of both expr)
 
 abbrev FormGood : Form → Type 0
-FormGood form = items_in form ≡ true → (node : NodeId) (span : Span) → PartFits (in_form form node span)
+FormGood form = (node : NodeId) (span : Span) → PartFits (in_form form node span)
 
 abbrev GoodForm : Type 0
 GoodForm = Such the_family (claims FormGood ExprGood) member-Form
@@ -201,68 +195,58 @@ layer_of = map-Form GoodForm GoodExpr Form Expr the_form the_expr
 abbrev layer_in : Form-F Form Expr → Form-F (NodeId → Span → Part Both) (Part Both)
 layer_in = map-Form Form Expr (NodeId → Span → Part Both) (Part Both) in_form (part_of both)
 
-all_good : (goods : List GoodExpr) → list_all (λ has. has) (map has_items (map the_expr goods)) ≡ true → All PartFits (map (part_of both) (map the_expr goods))
-all_good [] all = All-nil PartFits
-all_good (good ∷ goods) all =
-    let items = and_parts (has_items good.0) (list_all (λ has. has) (map has_items (map the_expr goods))) all in
-    All-cons PartFits (part_of both good.0) (map (part_of both) (map the_expr goods)) (good.1 items.0) (all_good goods items.1)
+all_good : (goods : List GoodExpr) → All PartFits (map (part_of both) (map the_expr goods))
+all_good [] = All-nil PartFits
+all_good (good ∷ goods) = All-cons PartFits (part_of both good.0) (map (part_of both) (map the_expr goods)) good.1 (all_good goods)
 
 -- a layer of a form, by what it is seen as
 carried : (layer : Form-F Form Expr)
     → ((node : NodeId) (span : Span) → LiteralIs (literal_of (layer_in layer)) (seen both node span (layer_in layer)))
-    → (has_items_in (map-Form Form Expr Bool Bool items_in has_items layer) ≡ true → (node : NodeId) (span : Span) → SeenFits (seen both node span (layer_in layer)))
+    → ((node : NodeId) (span : Span) → SeenFits (seen both node span (layer_in layer)))
     → FormGood (roll-Form layer)
-carried layer literal fits items node span =
-    let within = sym (fold-roll-Form Bool Bool has_items_in (λ e. e.form) layer) ∙ items in
+carried layer literal fits node span =
     let is = ap (λ f. f node span) (fold-roll-Form (NodeId → Span → Part Both) (Part Both) (part_of_form both) (λ e. e.form e.node e.span) layer) in
-    subst PartFits (sym is) (part_fits node span span (literal_of (layer_in layer)) (seen both node span (layer_in layer)) (literal node span) (fits within node span))
+    subst PartFits (sym is) (part_fits node span span (literal_of (layer_in layer)) (seen both node span (layer_in layer)) (literal node span) (fits node span))
 
 no_literal : (form : Seen Both) → LiteralIs None form
 no_literal form text is = absurd cc
 
-within_seen : (negated : Bool) (left : GoodExpr) (items : List GoodExpr) → (has_items left.0 && some_and_all (map has_items (map the_expr items))) ≡ true
-    → AppliedFits (if negated then function.NotIn else function.In) (part_of both left.0 ∷ map (part_of both) (map the_expr items))
-within_seen negated left [] has = absurd (let parts = and_parts (has_items left.0) false has in let no : false ≡ true = parts.1 in cc)
-within_seen negated left (first ∷ rest) has =
-    let parts = and_parts (has_items left.0) (some_and_all (map has_items (map the_expr (first ∷ rest)))) has in
-    within_fits negated (part_of both left.0) (part_of both first.0) (map (part_of both) (map the_expr rest))
-    (All-cons PartFits (part_of both left.0) (map (part_of both) (map the_expr (first ∷ rest))) (left.1 parts.0) (all_good (first ∷ rest) parts.1))
-
 form_good : (layer : Form-F GoodForm GoodExpr) → FormGood (roll-Form (layer_of layer))
-form_good (Constant cell kind) = carried (layer_of (Constant cell kind)) (λ node span. constant_literal cell span) (λ items node span. constant_seen cell span)
-form_good (Listed values) = carried (layer_of (Listed values)) (λ node span. no_literal _) (λ items node span. list_fits values (kind_of_list values) span (list_has values))
-form_good (Column name) = carried (layer_of (Column name)) (λ node span. no_literal _) (λ items node span. tt)
-form_good (Group inner) = carried (layer_of (Group inner)) (λ node span. no_literal _) (λ items node span. inner.1 items)
+form_good (Constant cell kind) = carried (layer_of (Constant cell kind)) (λ node span. constant_literal cell span) (λ node span. constant_seen cell span)
+form_good (Listed values) = carried (layer_of (Listed values)) (λ node span. no_literal _) (λ node span. list_fits values (kind_of_list values) span (list_has values))
+form_good (Column name) = carried (layer_of (Column name)) (λ node span. no_literal _) (λ node span. tt)
+form_good (Group inner) = carried (layer_of (Group inner)) (λ node span. no_literal _) (λ node span. inner.1)
 form_good (Call called args star) =
     carried (layer_of (Call called args star)) (λ node span. no_literal _)
-    (λ items node span. called_fits (function_named called.name) (aggregate_named called.name) called.span star (map (part_of both) (map the_expr args)) span (named_fits called.name) (all_good args items))
+    (λ node span. called_fits (function_named called.name) (aggregate_named called.name) called.span star (map (part_of both) (map the_expr args)) span (named_fits called.name) (all_good args))
 form_good (Minus arg) =
-    carried (layer_of (Minus arg)) (λ node span. no_literal _) (λ items node span. record { each = one (part_of both arg.0) (arg.1 items); count = refl; pattern = tt })
+    carried (layer_of (Minus arg)) (λ node span. no_literal _) (λ node span. record { each = one (part_of both arg.0) arg.1; count = refl; pattern = tt })
 form_good (Not arg) =
-    carried (layer_of (Not arg)) (λ node span. no_literal _) (λ items node span. record { each = one (part_of both arg.0) (arg.1 items); count = refl; pattern = tt })
+    carried (layer_of (Not arg)) (λ node span. no_literal _) (λ node span. record { each = one (part_of both arg.0) arg.1; count = refl; pattern = tt })
 form_good (Binary op left right) =
     carried (layer_of (Binary op left right)) (λ node span. no_literal _)
-    (λ items node span. let has = and_parts (has_items left.0) (has_items right.0) items in
-    binary_fits op (part_of both left.0) (part_of both right.0) (two (part_of both left.0) (part_of both right.0) (left.1 has.0) (right.1 has.1)))
-form_good (Within negated left items) = carried (layer_of (Within negated left items)) (λ node span. no_literal _) (λ has node span. within_seen negated left items has)
+    (λ node span. binary_fits op (part_of both left.0) (part_of both right.0) (two (part_of both left.0) (part_of both right.0) left.1 right.1))
+form_good (Within negated left items) =
+    carried (layer_of (Within negated left items)) (λ node span. no_literal _)
+    (λ node span. within_fits negated (part_of both left.0) (map (part_of both) (map the_expr items))
+    (All-cons PartFits (part_of both left.0) (map (part_of both) (map the_expr items)) left.1 (all_good items)))
 form_good (Like negated regex left pattern) =
     carried (layer_of (Like negated regex left pattern)) (λ node span. no_literal _)
-    (λ items node span. like_fits negated regex (part_of both left.0) (pattern_part both node pattern)
-    (two (part_of both left.0) (pattern_part both node pattern) (left.1 items)
+    (λ node span. like_fits negated regex (part_of both left.0) (pattern_part both node pattern)
+    (two (part_of both left.0) (pattern_part both node pattern) left.1
     (part_fits node pattern.span pattern.span (Some pattern.text) (constant (value.Text pattern.text ∷ []) kind.Keyword)
     (λ text is. let same : pattern.text ≡ text = cc in ap (λ (these : List ℕ). constant (value.Text these ∷ []) kind.Keyword) same) refl))
     refl)
 form_good (IsNull negated arg) =
-    carried (layer_of (IsNull negated arg)) (λ node span. no_literal _) (λ items node span. null_test_fits negated (part_of both arg.0) (one (part_of both arg.0) (arg.1 items)))
+    carried (layer_of (IsNull negated arg)) (λ node span. no_literal _) (λ node span. null_test_fits negated (part_of both arg.0) (one (part_of both arg.0) arg.1))
 form_good (Cast arg kind) =
     carried (layer_of (Cast arg kind)) (λ node span. no_literal _)
-    (λ items node span. converted_fits (cast_named kind.name) (part_of both arg.0) kind.span (cast_fits kind.name) (arg.1 items))
+    (λ node span. converted_fits (cast_named kind.name) (part_of both arg.0) kind.span (cast_fits kind.name) arg.1)
 
 own_good : (own : Expr-F Form Expr) → FormGood own.form → ExprGood (roll-Expr own)
-own_good own form items =
-    let within = sym (fold-roll-Expr Bool Bool has_items_in (λ e. e.form) own) ∙ items in
+own_good own form =
     let is = fold-roll-Expr (NodeId → Span → Part Both) (Part Both) (part_of_form both) (λ e. e.form e.node e.span) own in
-    subst PartFits (sym is) (form within own.node own.span)
+    subst PartFits (sym is) (form own.node own.span)
 
 expr_good : (expr : Expr) → ExprGood expr
 expr_good =
@@ -270,12 +254,12 @@ expr_good =
     (λ own good is. let P : Expr-F Form Expr → Type 0 = λ this. ExprGood (roll-Expr this) in subst P is (own_good (map-Expr GoodForm GoodExpr Form Expr the_form the_expr good) good.form.1))
 
 -- the typed form of an expression that breaks no rule is well formed
-pub expr_fits : (expr : Expr) → HasItems expr → (visible : Visible) (scope : Scope) (kind : Kind) → StandsOver visible scope → kind_or_rule expr scope ≡ Ok kind
+pub expr_fits : (expr : Expr) (visible : Visible) (scope : Scope) (kind : Kind) → StandsOver visible scope → kind_or_rule expr scope ≡ Ok kind
     → (at_whole at_free : ℕ) (whole free : List (List ℕ)) → HasAt whole at_whole (typing_of expr).whole → HasAt free at_free (typing_of expr).free
     → ExprFits whole free (typed_of expr visible at_whole at_free)
-expr_fits expr items visible scope kind stands is at_whole at_free whole free wholes_at frees_at =
+expr_fits expr visible scope kind stands is at_whole at_free whole free wholes_at frees_at =
     let typed : typing_of expr ≡ (part_of both expr).reading.typing = read_made Both Typing both typing typing_in (record { is = λ node span seen. refl }) expr in
     let read : kind_or_rule expr ≡ (part_of both expr).reading.judged = read_made Both Judged both judged judged_in (record { is = λ node span seen. refl }) expr in
     ap (λ (these : Typing). (plan_part whole free (these.at visible at_whole at_free)).fits) typed
-    ∙ (expr_good expr items).fits visible scope kind stands (sym (ap (λ (these : Judged). these scope) read) ∙ is) at_whole at_free whole free
+    ∙ (expr_good expr).fits visible scope kind stands (sym (ap (λ (these : Judged). these scope) read) ∙ is) at_whole at_free whole free
     (subst (λ (these : Typing). HasAt whole at_whole these.whole) typed wholes_at) (subst (λ (these : Typing). HasAt free at_free these.free) typed frees_at)

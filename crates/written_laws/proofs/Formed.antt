@@ -15,7 +15,6 @@ use Rattle.query_semantics.specs.Catalogs.{IsCatalog}
 use Rattle.query_semantics.specs.Cuts.{last_count}
 use Rattle.query_semantics.specs.Shapes.{Context, shape_of, shape_of_source, shape_of_commands}
 use Rattle.query_semantics.specs.Written.{Writing, source_in_plan, write_source, writing_of, written_of}
-use Rattle.written_laws.specs.Items.{HaveItems}
 use Rattle.written_laws.proofs.Kinded.{found_of}
 use Rattle.written_laws.proofs.Shown.{source_shows}
 use Rattle.written_laws.proofs.Numbers.{all_at}
@@ -42,16 +41,16 @@ all_below nodes (one ∷ ones) none =
         let here : cond {A = ℕ} (one.0 == one.0) 1 0 ≡ 1 = ap (λ (b : Bool). cond {A = ℕ} b 1 0) (itself one.0) in
         absurd (omega (arith, here, none one above))
 
-pub written_formed : (text : List ℕ) (catalog : Catalog) (query : Query) (columns : List Column) → IsCatalog catalog → IsNumbered query → HaveItems query → shape_of text catalog query ≡ Ok columns
+pub written_formed : (text : List ℕ) (catalog : Catalog) (query : Query) (columns : List Column) → IsCatalog catalog → IsNumbered query → shape_of text catalog query ≡ Ok columns
     → IsWellFormed catalog (written_of text catalog query).whole (written_of text catalog query).free (written_of text catalog query).plan
-written_formed text catalog query columns is_catalog numbered items is =
+written_formed text catalog query columns is_catalog numbered is =
     let context : Context = record { text = text; catalog = catalog; accepts = is_accepted } in
     let found = found_of (shape_of_source context query.source) (shape_of_commands context query.commands) columns is in
     let writing : Writing = writing_of text catalog query in
     let made : List MadeColumn = source_made (source_in_plan catalog query.source) in
     let first : ℕ = count_made context query.source in
-    let commands = commands_formed made first context query.commands found.value columns (write_source text catalog query.source) (source_formed context query.source found.value items.source found.is)
-    (source_shows context query.source found.value found.is) items.commands found.next_is in
+    let commands = commands_formed made first context query.commands found.value columns (write_source text catalog query.source) (source_formed context query.source found.value found.is)
+    (source_shows context query.source found.value found.is) found.next_is in
     let formed : IsFormed made first writing = limit_formed made first _ commands (last_count query) in
     let bounds : Bounds = bounds_of writing.whole writing.free (written_of text catalog query).plan in
     let within : IsWithin bounds writing = record {

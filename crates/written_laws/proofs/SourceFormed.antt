@@ -15,7 +15,6 @@ use Rattle.row_semantics.specs.Sources.{tables_named, columns_of_tables, columns
 use Rattle.query_semantics.specs.Catalogs.{IsCatalog}
 use Rattle.query_semantics.specs.Shapes.{Context, shape_of_source, unless_empty}
 use Rattle.query_semantics.specs.Written.{numbered_from, scan_column, writing_of_columns, source_in_plan, write_source}
-use Rattle.written_laws.specs.Items.{SourceHasItems}
 use Rattle.written_laws.proofs.Named.{IsBelow}
 use Rattle.written_laws.proofs.Kinded.{found_of}
 use Rattle.written_laws.proofs.Sources.{all_below}
@@ -89,10 +88,10 @@ nothing_formed = record {
 }
 
 -- what the source writes is well formed over the columns that it makes
-pub source_formed : (context : Context) (command : SourceCommand) (columns : List Column) → SourceHasItems command → shape_of_source context command ≡ Ok columns
+pub source_formed : (context : Context) (command : SourceCommand) (columns : List Column) → shape_of_source context command ≡ Ok columns
     → IsFormed (source_made (source_in_plan context.catalog command)) (count_made context command) (write_source context.text context.catalog command)
-source_formed context (Tables node span tables) columns items is = columns_formed (columns_or_none (columns_of_tables context.catalog.tables tables))
-source_formed context (OneRow node span fields) columns items is = fields_formed [] 0 context fields [] columns (writing_of_columns []) nothing_formed refl items is
+source_formed context (Tables node span tables) columns is = columns_formed (columns_or_none (columns_of_tables context.catalog.tables tables))
+source_formed context (OneRow node span fields) columns is = fields_formed [] 0 context fields [] columns (writing_of_columns []) nothing_formed refl is
 
 -- the tables are there, and its columns are made once
 pub source_stands : (context : Context) (command : SourceCommand) (columns : List Column) → IsCatalog context.catalog → shape_of_source context command ≡ Ok columns

@@ -27,7 +27,6 @@ use Rattle.row_semantics.specs.Columns.{put_column}
 use Rattle.row_semantics.specs.Typed.{typing_of}
 use Rattle.query_semantics.specs.Shapes.{Context, Shape, scope_over, shape_of_field, shape_of_fields, shape_of_condition, shape_of_kind, shape_of_command, shape_of_commands, unless_empty}
 use Rattle.query_semantics.specs.Written.{Writing, column_at, typed_in, put_visible, write_field, write_fields, write_condition, write_limit, write_kind, write_command}
-use Rattle.written_laws.specs.Items.{HasItems, FieldsHaveItems, KindHasItems}
 use Rattle.written_laws.proofs.Squares.{All-at_places, All-renamed_by}
 use Rattle.written_laws.proofs.Kinded.{found_of, expr_kinded}
 use Rattle.written_laws.proofs.Shown.{Shows, field_shows, command_shows}
@@ -95,20 +94,20 @@ module _ (made : List MadeColumn) (first : ℕ) (writing : Writing) (formed : Is
       )
 
   -- an expression over the columns that can be seen
-  expr_stands : (context : Context) (columns : List Column) (expr : Expr) (kind : Kind) → Shows writing columns → HasItems expr → kind_or_rule expr (scope_over context columns) ≡ Ok kind
+  expr_stands : (context : Context) (columns : List Column) (expr : Expr) (kind : Kind) → Shows writing columns → kind_or_rule expr (scope_over context columns) ≡ Ok kind
       → (bounds : Bounds) → HasAt bounds.whole 0 (writing.whole ++ (typing_of expr).whole) → HasAt bounds.free 0 (writing.free ++ (typing_of expr).free)
       → All (IsNodeBelow bounds.nodes) (nodes_of (typed_in writing expr)) → ExprStands bounds so_far (typed_in writing expr)
-  expr_stands context columns expr kind shows items is bounds whole free nodes = record {
-    fits = expr_fits expr items (over writing.visible) (scope_over context columns) kind (record { columns = shows; outside = refl }) is (length writing.whole) (length writing.free) bounds.whole bounds.free
+  expr_stands context columns expr kind shows is bounds whole free nodes = record {
+    fits = expr_fits expr (over writing.visible) (scope_over context columns) kind (record { columns = shows; outside = refl }) is (length writing.whole) (length writing.free) bounds.whole bounds.free
         (number_behind bounds.whole writing.whole (typing_of expr).whole whole) (number_behind bounds.free writing.free (typing_of expr).free free);
     reads = typed_reads expr so_far writing.visible formed.seen (length writing.whole) (length writing.free);
     nodes = nodes;
   }
 
   -- a field
-  field_formed : (context : Context) (columns : List Column) (field : Field) (kind : Kind) → Shows writing columns → HasItems field.expr → kind_or_rule field.expr (scope_over context columns) ≡ Ok kind
+  field_formed : (context : Context) (columns : List Column) (field : Field) (kind : Kind) → Shows writing columns → kind_or_rule field.expr (scope_over context columns) ≡ Ok kind
       → IsFormed made first (write_field context.text writing field)
-  field_formed context columns field kind shows items is =
+  field_formed context columns field kind shows is =
       let typed : TypedExpr = typed_in writing field.expr in
       let last : Step = step.Eval (column_at writing.next) typed in
       let new : MadeColumn = made_as (column_at writing.next) typed.kind in
@@ -134,7 +133,7 @@ module _ (made : List MadeColumn) (first : ℕ) (writing : Writing) (formed : Is
               nodes = nodes.0;
             } in
             steps_stand-push bounds made writing.steps last (formed.stand bounds before) (
-              expr_stands context columns field.expr kind shows items is bounds within.whole within.free nodes.1,
+              expr_stands context columns field.expr kind shows is bounds within.whole within.free nodes.1,
               record {
                 new = All-weaker (IsMadeBelow writing.next) (λ (column : MadeColumn). writing.next == column.id ≡ false) (λ column less. other_id writing.next column.id less) so_far formed.below;
                 below = omega (arith, within.next);
@@ -147,9 +146,9 @@ module _ (made : List MadeColumn) (first : ℕ) (writing : Writing) (formed : Is
   either_true false broken columns after is = absurd cc
 
   -- WHERE
-  condition_formed : (context : Context) (columns after : List Column) (node : NodeId) (condition : Expr) → Shows writing columns → HasItems condition
+  condition_formed : (context : Context) (columns after : List Column) (node : NodeId) (condition : Expr) → Shows writing columns
       → shape_of_condition context condition columns ≡ Ok after → IsFormed made first (write_condition node condition writing)
-  condition_formed context columns after node condition shows items is =
+  condition_formed context columns after node condition shows is =
       let typed : TypedExpr = typed_in writing condition in
       let last : Step = step.Filter node typed in
       let found = found_of (kind_or_rule condition (scope_over context columns)) _ after is in
@@ -170,7 +169,7 @@ module _ (made : List MadeColumn) (first : ℕ) (writing : Writing) (formed : Is
             } in
             steps_stand-push bounds made writing.steps last (formed.stand bounds before)
             (record {
-              stands = expr_stands context columns condition found.value shows items found.is bounds within.whole within.free (All-front (IsNodeBelow bounds.nodes) (nodes_of typed) (node ∷ []) nodes.1);
+              stands = expr_stands context columns condition found.value shows found.is bounds within.whole within.free (All-front (IsNodeBelow bounds.nodes) (nodes_of typed) (node ∷ []) nodes.1);
               truth = ap (is_kind kind.Boolean) kinded ∙ either_true (is_kind kind.Boolean found.value) _ columns after found.next_is;
               below = All-head (IsNodeBelow bounds.nodes) node [] (All-back (IsNodeBelow bounds.nodes) (nodes_of typed) (node ∷ []) nodes.1);
             });
@@ -200,37 +199,37 @@ module _ (made : List MadeColumn) (first : ℕ) (writing : Writing) (formed : Is
 
 -- fields in turn
 pub fields_formed : (made : List MadeColumn) (first : ℕ) (context : Context) (fields : List Field) (columns after : List Column) (writing : Writing) → IsFormed made first writing → Shows writing columns
-    → FieldsHaveItems fields → shape_of_fields context fields columns ≡ Ok after → IsFormed made first (write_fields context.text fields writing)
-fields_formed made first context [] columns after writing formed shows items is = formed
-fields_formed made first context (field ∷ fields) columns after writing formed shows items is =
+    → shape_of_fields context fields columns ≡ Ok after → IsFormed made first (write_fields context.text fields writing)
+fields_formed made first context [] columns after writing formed shows is = formed
+fields_formed made first context (field ∷ fields) columns after writing formed shows is =
     let found = found_of (shape_of_field context field columns) (shape_of_fields context fields) after is in
     let kinded = found_of (kind_or_rule field.expr (scope_over context columns)) (λ kind. Ok (put_column columns (name_of_field context.text field) kind)) found.value found.is in
     fields_formed made first context fields found.value after (write_field context.text writing field)
-    (field_formed made first writing formed context columns field kinded.value shows (All-head (λ (field : Field). HasItems field.expr) field fields items) kinded.is)
+    (field_formed made first writing formed context columns field kinded.value shows kinded.is)
     (field_shows context field columns found.value writing shows found.is)
-    (All-tail (λ (field : Field). HasItems field.expr) field fields items) found.next_is
+    found.next_is
 
 kind_formed : (made : List MadeColumn) (first : ℕ) (context : Context) (node : NodeId) (kind : CommandKind) (columns after : List Column) (writing : Writing) → IsFormed made first writing → Shows writing columns
-    → KindHasItems kind → shape_of_kind context kind columns ≡ Ok after → IsFormed made first (write_kind context.text node kind writing)
-kind_formed made first context node (Filter condition) columns after writing formed shows items is = condition_formed made first writing formed context columns after node condition shows items is
-kind_formed made first context node (Eval fields) columns after writing formed shows items is = fields_formed made first context fields columns after writing formed shows items is
-kind_formed made first context node (Keep patterns) columns after writing formed shows items is =
+    → shape_of_kind context kind columns ≡ Ok after → IsFormed made first (write_kind context.text node kind writing)
+kind_formed made first context node (Filter condition) columns after writing formed shows is = condition_formed made first writing formed context columns after node condition shows is
+kind_formed made first context node (Eval fields) columns after writing formed shows is = fields_formed made first context fields columns after writing formed shows is
+kind_formed made first context node (Keep patterns) columns after writing formed shows is =
     seen_formed made first writing formed _ (All-at_places (OutIsMade (steps_made made writing.steps)) _ writing.visible formed.seen)
-kind_formed made first context node (Drop patterns) columns after writing formed shows items is =
+kind_formed made first context node (Drop patterns) columns after writing formed shows is =
     seen_formed made first writing formed _ (All-at_places (OutIsMade (steps_made made writing.steps)) _ writing.visible formed.seen)
-kind_formed made first context node (Rename pairs) columns after writing formed shows items is =
+kind_formed made first context node (Rename pairs) columns after writing formed shows is =
     seen_formed made first writing formed _ (All-renamed_by (OutIsMade (steps_made made writing.steps)) _ (λ name column there. there) _ writing.visible formed.seen)
-kind_formed made first context node (Limit count) columns after writing formed shows items is = limit_formed made first writing formed count
-kind_formed made first context node other columns after writing formed shows items is = formed
+kind_formed made first context node (Limit count) columns after writing formed shows is = limit_formed made first writing formed count
+kind_formed made first context node other columns after writing formed shows is = formed
 
 -- commands in turn
 pub commands_formed : (made : List MadeColumn) (first : ℕ) (context : Context) (commands : List Command) (columns after : List Column) (writing : Writing) → IsFormed made first writing → Shows writing columns
-    → All (λ (command : Command). KindHasItems command.kind) commands → shape_of_commands context commands columns ≡ Ok after → IsFormed made first (fold (write_command context.text) writing commands)
-commands_formed made first context [] columns after writing formed shows items is = formed
-commands_formed made first context (command ∷ commands) columns after writing formed shows items is =
+    → shape_of_commands context commands columns ≡ Ok after → IsFormed made first (fold (write_command context.text) writing commands)
+commands_formed made first context [] columns after writing formed shows is = formed
+commands_formed made first context (command ∷ commands) columns after writing formed shows is =
     let found = found_of (shape_of_command context command columns) (shape_of_commands context commands) after is in
     let own = found_of (shape_of_kind context command.kind columns) (unless_empty command.span) found.value found.is in
     commands_formed made first context commands found.value after (write_command context.text writing command)
-    (kind_formed made first context command.node command.kind columns own.value writing formed shows (All-head (λ (command : Command). KindHasItems command.kind) command commands items) own.is)
+    (kind_formed made first context command.node command.kind columns own.value writing formed shows own.is)
     (command_shows context command columns found.value writing shows found.is)
-    (All-tail (λ (command : Command). KindHasItems command.kind) command commands items) found.next_is
+    found.next_is

@@ -19,7 +19,6 @@ use Rattle.query_semantics.specs.Commands.{rows_of_commands, failures_of_command
 use Rattle.query_semantics.specs.Meaning.{meaning_of, AreRowsOf, shown_under, rows_of_source}
 use Rattle.query_semantics.specs.Shapes.{shape_of}
 use Rattle.query_semantics.specs.Written.{written_of}
-use Rattle.written_laws.specs.Items.{HaveItems}
 
 -- the tables with their rows are those of the catalog
 abbrev pub AreTablesOf : Catalog → List TableHeld → Type 0
@@ -54,7 +53,7 @@ LimitsKeepFailures = (text : List ℕ) (tables : List TableHeld) (source : Sourc
 -- rule, and no plan has one.
 abbrev pub PlansAreWellFormed : Type 0
 PlansAreWellFormed = (text : List ℕ) (catalog : Catalog) (query : Query) (columns : List Column)
-    → IsCatalog catalog → IsNumbered query → IsBuiltQuery query → HaveItems query → shape_of text catalog query ≡ Ok columns
+    → IsCatalog catalog → IsNumbered query → IsBuiltQuery query → shape_of text catalog query ≡ Ok columns
     → IsWellFormed catalog (written_of text catalog query).whole (written_of text catalog query).free (written_of text catalog query).plan
 
 -- the plan that a numbered query is written as is orderly: each node fails in one part of it at most
