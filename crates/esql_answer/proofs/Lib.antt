@@ -1,0 +1,4 @@
+mod ItemParts
+mod Items
+mod Plans
+mod Queries
