@@ -1,4 +1,2 @@
-mod ItemParts
-mod Items
 mod Plans
 mod Queries
