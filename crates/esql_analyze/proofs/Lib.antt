@@ -1,0 +1,3 @@
+pub mod Parted
+pub mod Stays
+pub mod ShapeStays
