@@ -1,3 +1,9 @@
 pub mod Parted
 pub mod Stays
 pub mod ShapeStays
+pub mod Expressions
+pub mod FieldWrites
+pub mod Rooms
+pub mod Turns
+pub mod Heard
+pub mod NameWrites

@@ -22,8 +22,8 @@ use Rattle.row_semantics.specs.Regulars.{Regular, is_accepted}
 use Rattle.row_semantics.specs.Scopes.{Broken, elsewhere}
 use Rattle.row_semantics.specs.Kinds.{breaks, and_then, kind_or_rule}
 use Rattle.query_semantics.specs.Shapes.{Shape, scope_over, shape_of_field, shape_of_fields, shape_of_condition, shape_of_kind, unless_empty, shape_of_command, shape_of_commands, shape_of_source}
-use Rattle.expression_analysis.specs.declared.AnalyzeError.{AnalyzeError}
-use Rattle.expression_analysis.specs.declared.AnalyzeError.TheVariants.{Broken as BrokenAt, PatternRoom, Memory}
+use Rattle.expression_analysis.specs.declared.error.AnalyzeError.{AnalyzeError}
+use Rattle.expression_analysis.specs.declared.error.AnalyzeError.TheVariants.{Broken as BrokenAt, PatternRoom, Memory}
 use Rattle.expression_analysis.specs.Answers.{accepted_but, IsRefusal}
 use Rattle.esql_analyze.specs.Contexts.{over, over_catalog}
 use Rattle.esql_analyze.proofs.Stays.{Stays, then_stays, expr_stays}
@@ -95,11 +95,12 @@ command_stays text command columns =
 pub fields_over : (text : List ℕ) (catalog : Catalog) (accepts : Regular → Bool) (fields : List Field) (columns : List Column)
     → shape_of_fields (over_catalog text catalog accepts) fields columns ≡ shape_of_fields (over text accepts) fields columns
 fields_over text catalog accepts [] columns = refl
-fields_over text catalog accepts (field ∷ fields) columns = by_first (shape_of_field (over text accepts) field columns)
+fields_over text catalog accepts (field ∷ fields) columns = by_first (shape_of_field (over text accepts) field columns) (fields_over text catalog accepts fields)
   where
-    by_first : (first : Shape) → and_then first (shape_of_fields (over_catalog text catalog accepts) fields) ≡ and_then first (shape_of_fields (over text accepts) fields)
-    by_first (Ok more) = fields_over text catalog accepts fields more
-    by_first (Err broken) = refl
+    by_first : (first : Shape) → ((more : List Column) → shape_of_fields (over_catalog text catalog accepts) fields more ≡ shape_of_fields (over text accepts) fields more)
+        → and_then first (shape_of_fields (over_catalog text catalog accepts) fields) ≡ and_then first (shape_of_fields (over text accepts) fields)
+    by_first (Ok more) rest = rest more
+    by_first (Err broken) rest = refl
 
 kind_over : (text : List ℕ) (catalog : Catalog) (accepts : Regular → Bool) (command : CommandKind) (columns : List Column)
     → shape_of_kind (over_catalog text catalog accepts) command columns ≡ shape_of_kind (over text accepts) command columns
@@ -122,11 +123,12 @@ pub commands_over : (text : List ℕ) (catalog : Catalog) (accepts : Regular →
 commands_over text catalog accepts [] columns = refl
 commands_over text catalog accepts (command ∷ commands) columns =
     ap (λ (first : Shape). and_then (and_then first (unless_empty command.span)) (shape_of_commands (over_catalog text catalog accepts) commands)) (kind_over text catalog accepts command.kind columns)
-    ∙ by_first (shape_of_command (over text accepts) command columns)
+    ∙ by_first (shape_of_command (over text accepts) command columns) (commands_over text catalog accepts commands)
   where
-    by_first : (first : Shape) → and_then first (shape_of_commands (over_catalog text catalog accepts) commands) ≡ and_then first (shape_of_commands (over text accepts) commands)
-    by_first (Ok more) = commands_over text catalog accepts commands more
-    by_first (Err broken) = refl
+    by_first : (first : Shape) → ((more : List Column) → shape_of_commands (over_catalog text catalog accepts) commands more ≡ shape_of_commands (over text accepts) commands more)
+        → and_then first (shape_of_commands (over_catalog text catalog accepts) commands) ≡ and_then first (shape_of_commands (over text accepts) commands)
+    by_first (Ok more) rest = rest more
+    by_first (Err broken) rest = refl
 
 -- the shape of a source stays
 pub source_stays : (text : List ℕ) (catalog : Catalog) (source : SourceCommand) → Stays (λ accepts. shape_of_source (over_catalog text catalog accepts) source)

@@ -15,7 +15,7 @@ use Rattle.row_semantics.specs.Regulars.{Regular, is_accepted}
 use Rattle.row_semantics.specs.Scopes.{Broken, Standing, elsewhere, in_field, in_aggregate, Scope}
 use Rattle.row_semantics.specs.Kinds.{Judged, judged, breaks, and_then, kinds_of_parts, kind_of_applied, regular_of, if_accepted, fitting, kind_of_argument, kind_of_aggregate, kind_of_standing, kind_or_rule}
 use Rattle.written_laws.proofs.Readings.{part_with, parts_with, seen_with, read_made}
-use Rattle.expression_analysis.specs.Answers.{accepted_but, is_at}
+use Rattle.expression_analysis.specs.Answers.{accepted_but, same_span}
 
 -- the judgement is as it was, or refuses at the place
 abbrev pub Stays : {A : Type 0} → ((Regular → Bool) → Result A Broken) → Type 0
@@ -47,10 +47,10 @@ place_is this that is =
     λ i. record { from = from i; to = to i }
 
 but_cases : (span : Span) (regular : Regular) → (accepted_but span regular ≡ is_accepted regular) ⊎ ((accepted_but span regular ≡ false) × (regular.span ≡ span))
-but_cases span regular = by_place (is_at span regular) refl (is_accepted regular)
+but_cases span regular = by_place (same_span span regular.span) refl (is_accepted regular)
   where
-    by_place : (here : Bool) → is_at span regular ≡ here → (accepted : Bool) → ((accepted && not here) ≡ accepted) ⊎ (((accepted && not here) ≡ false) × (regular.span ≡ span))
-    by_place true is true = inr (refl, place_is regular.span span is)
+    by_place : (here : Bool) → same_span span regular.span ≡ here → (accepted : Bool) → ((accepted && not here) ≡ accepted) ⊎ (((accepted && not here) ≡ false) × (regular.span ≡ span))
+    by_place true is true = inr (refl, sym (place_is span regular.span is))
     by_place true is false = inl refl
     by_place false is true = inl refl
     by_place false is false = inl refl

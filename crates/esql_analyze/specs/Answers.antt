@@ -4,9 +4,9 @@ use Rattle.plan_semantics.specs.Plans.{columns_of}
 use Rattle.row_semantics.specs.Regulars.{Regular, is_accepted}
 use Rattle.query_semantics.specs.Shapes.{Shape}
 use Rattle.query_semantics.specs.Written.{Writing}
-use Rattle.expression_analysis.specs.declared.AnalyzeError.{AnalyzeError}
-use Rattle.expression_analysis.specs.declared.AnalyzeError.TheVariants.{Broken as BrokenAt, PatternRoom, Memory}
-use Rattle.expression_analysis.specs.Answers.{IsRefusal, IsTold}
+use Rattle.expression_analysis.specs.declared.error.AnalyzeError.{AnalyzeError}
+use Rattle.expression_analysis.specs.declared.error.AnalyzeError.TheVariants.{Broken as BrokenAt, PatternRoom, Memory}
+use Rattle.expression_analysis.specs.Answers.{IsRefusal, IsTold, IsUntouched}
 use Rattle.esql_analyze.specs.declared.writing.Writing.{Writing as Made}
 use Rattle.esql_analyze.specs.Writings.{seen}
 
@@ -15,16 +15,12 @@ abbrev pub Writes : ((Regular → Bool) → Shape) → Writing → Result Made A
 Writes shape written (Ok made) = (seen made ≡ written) × (shape is_accepted ≡ Ok (columns_of made.visible))
 Writes shape written (Err error) = IsRefusal shape error
 
--- the maker told of no pattern that was too large
-abbrev pub IsSilent : {M : Type 0} → (M → ℕ) → (M → List ℕ) → M → M → Type 0
-IsSilent count last old new = (count new ≡ count old) × (last new ≡ last old)
-
--- The maker told of a pattern that was too large, which is one of these, exactly where the answer tells of it.
+-- The maker told of a pattern that was too large, which is one of these, exactly where the error tells of it.
 abbrev pub IsHeard : {M : Type 0} → (M → ℕ) → (M → List ℕ) → List Regular → M → M → AnalyzeError → Type 0
-IsHeard count last these old new (BrokenAt rule span) = IsSilent count last old new
+IsHeard count last these old new (BrokenAt rule span) = IsUntouched count last old new
 IsHeard count last these old new (PatternRoom span) = IsTold count last these old new (PatternRoom span) × (count old ≤ count new)
-IsHeard count last these old new (Memory error) = IsSilent count last old new
+IsHeard count last these old new (Memory error) = IsUntouched count last old new
 
 abbrev pub Hears : {M A : Type 0} → (M → ℕ) → (M → List ℕ) → List Regular → M → M → Result A AnalyzeError → Type 0
-Hears count last these old new (Ok value) = IsSilent count last old new
+Hears count last these old new (Ok value) = IsUntouched count last old new
 Hears count last these old new (Err error) = IsHeard count last these old new error

@@ -5,8 +5,8 @@ use Rattle.esql_ast.specs.declared.kept.NameError.TheVariants as pattern_error
 use Rattle.esql_ast.specs.declared.names.RenameError.{RenameError}
 use Rattle.esql_ast.specs.declared.names.RenameError.TheVariants as pair_error
 use Rattle.row_semantics.specs.declared.rule.NameRule.TheVariants as rule
-use Rattle.expression_analysis.specs.declared.AnalyzeError.{AnalyzeError}
-use Rattle.expression_analysis.specs.declared.AnalyzeError.TheVariants.{Broken, PatternRoom, Memory}
+use Rattle.expression_analysis.specs.declared.error.AnalyzeError.{AnalyzeError}
+use Rattle.expression_analysis.specs.declared.error.AnalyzeError.TheVariants.{Broken, PatternRoom, Memory}
 
 abbrev pub IsMemory : AnalyzeError → Type 0
 IsMemory (Broken rule span) = ⊥

@@ -6,10 +6,10 @@ use Rattle.esql_plan.specs.declared.plan.PlanSource.TheVariants.{Scan}
 use Rattle.row_semantics.specs.Regulars.{Regular}
 use Rattle.query_semantics.specs.Shapes.{Shape}
 use Rattle.query_semantics.specs.Written.{Writing, Written, writing_of_columns, numbered_from, scan_column}
-use Rattle.source_columns.specs.declared.SourceError.{SourceError}
-use Rattle.source_columns.specs.declared.SourceError.TheVariants as source_error
-use Rattle.expression_analysis.specs.declared.AnalyzeError.{AnalyzeError}
-use Rattle.expression_analysis.specs.declared.AnalyzeError.TheVariants.{Broken}
+use Rattle.source_columns.specs.declared.refusals.SourceError.{SourceError}
+use Rattle.source_columns.specs.declared.refusals.SourceError.TheVariants as source_error
+use Rattle.expression_analysis.specs.declared.error.AnalyzeError.{AnalyzeError}
+use Rattle.expression_analysis.specs.declared.error.AnalyzeError.TheVariants.{Broken}
 use Rattle.expression_analysis.specs.Answers.{IsRefusal}
 use Rattle.esql_analyze.specs.declared.query.Analyzed.{Analyzed}
 use Rattle.esql_analyze.specs.declared.source.Begun.{Begun}

@@ -112,7 +112,10 @@ pub(crate) fn write_field<M: Maker>(
         patterns,
         steps,
     };
-    add_field(alloc, text, writing, field, typed).map_err(AnalyzeError::Memory)
+    match add_field(alloc, text, writing, field, typed) {
+        Ok(writing) => Ok(writing),
+        Err(error) => Err(AnalyzeError::Memory(error)),
+    }
 }
 
 /// Each field in turn makes a column.

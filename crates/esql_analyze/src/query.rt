@@ -8,7 +8,7 @@ ghost use Rattle.query_semantics.specs.Catalogs.{IsCatalog};
 ghost use Rattle.query_semantics.specs.Cuts.{is_limit, last_count};
 ghost use Rattle.query_semantics.specs.Shapes.{shape_of, shape_in};
 ghost use Rattle.query_semantics.specs.Written.{written_of, source_in_plan, writing_of};
-ghost use Rattle.expression_analysis.specs.Answers.{IsRefusal, IsTold, HadRoom};
+ghost use Rattle.expression_analysis.specs.Answers.{IsRefusal, IsTold, IsQuiet};
 ghost use Rattle.esql_analyze.specs.Contexts.{over_catalog};
 ghost use Rattle.esql_analyze.specs.Regulars.{regulars_of_query};
 ghost use Rattle.esql_analyze.specs.Plans.{IsWritten, Begins};
@@ -101,7 +101,7 @@ pub fn analyze<M: Maker>(
     ensures refusal { IfErr result (IsRefusal (λ accepts. shape_in (over_catalog text.now catalog.now accepts) query.now)) }
     ensures room { IfErr result (IsTold M.refused M.last (regulars_of_query query.now) maker.old maker.new) }
     ensures count { M.refused maker.old ≤ M.refused maker.new }
-    ensures quiet { HadRoom result → (M.refused maker.new ≡ M.refused maker.old) × (M.last maker.new ≡ M.last maker.old) }
+    ensures quiet { IsQuiet M.refused M.last maker.old maker.new result }
 {
     let Begun { source, writing } = write_query(alloc, text, query, catalog, maker)?;
     let Writing {
