@@ -7,3 +7,6 @@ pub mod Rooms
 pub mod Turns
 pub mod Heard
 pub mod NameWrites
+pub mod Tables
+pub mod SourceWrites
+pub mod QueryWrites

@@ -71,10 +71,10 @@ renamed_writes pairs old new apart renamed names shown are there visible next re
 
 -- refusals ------------------------------------------------------------------------------------------------------------------
 
-as_told : (judge : Shape) (told : AnalyzeError) (own : NameRule) (at : Span) → told ≡ BrokenAt own at → judge ≡ Err (record { rule = own; span = at }) → IsRefusal (λ accepts. judge) told
+pub as_told : (judge : Shape) (told : AnalyzeError) (own : NameRule) (at : Span) → told ≡ BrokenAt own at → judge ≡ Err (record { rule = own; span = at }) → IsRefusal (λ accepts. judge) told
 as_told judge told own at is refused = subst (IsRefusal (λ accepts. judge)) (sym is) refused
 
-in_memory : (judge : Shape) (told : AnalyzeError) → IsMemory told → IsRefusal (λ accepts. judge) told
+pub in_memory : (judge : Shape) (told : AnalyzeError) → IsMemory told → IsRefusal (λ accepts. judge) told
 in_memory judge (BrokenAt rule span) memory = absurd memory
 in_memory judge (PatternRoom span) memory = absurd memory
 in_memory judge (Memory error) memory = tt

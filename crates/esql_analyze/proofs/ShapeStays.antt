@@ -34,7 +34,7 @@ pub refused_behind : {A B : Type 0} (first : (Regular → Bool) → Result A Bro
 refused_behind first next value (BrokenAt rule span) stays is refused = ap (λ r. and_then r (next is_accepted)) is ∙ refused
 refused_behind first next value (PatternRoom span) stays is refused =
     elim (stays span) [
-      | inl same ↦ ap (λ r. and_then r (next (accepted_but span))) (same ∙ is) ∙ refused
+      | inl as_before ↦ ap (λ r. and_then r (next (accepted_but span))) (as_before ∙ is) ∙ refused
       | inr refuses ↦ ap (λ r. and_then r (next (accepted_but span))) refuses
     ]
 refused_behind first next value (Memory error) stays is refused = tt
@@ -61,9 +61,9 @@ field_stays text field columns =
 
 pub fields_stay : (text : List ℕ) (fields : List Field) (columns : List Column) → Stays (λ accepts. shape_of_fields (over text accepts) fields columns)
 fields_stay text [] columns span = inl refl
-fields_stay text (field ∷ fields) columns =
+fields_stay text (field ∷ fields) columns span =
     let next : (Regular → Bool) → List Column → Shape = λ accepts. shape_of_fields (over text accepts) fields in
-    then_stays (λ accepts. shape_of_field (over text accepts) field columns) next (field_stays text field columns) (λ more. fields_stay text fields more)
+    then_stays (λ accepts. shape_of_field (over text accepts) field columns) next (field_stays text field columns) (λ more. fields_stay text fields more) span
 
 condition_stays : (text : List ℕ) (condition : Expr) (columns : List Column) → Stays (λ accepts. shape_of_condition (over text accepts) condition columns)
 condition_stays text condition columns =
@@ -71,8 +71,8 @@ condition_stays text condition columns =
     then_stays (λ accepts. kind_or_rule condition (scope_over (over text accepts) columns)) next (expr_stays condition columns elsewhere) (λ found span. inl refl)
 
 pub kind_stays : (text : List ℕ) (command : CommandKind) (columns : List Column) → Stays (λ accepts. shape_of_kind (over text accepts) command columns)
-kind_stays text (Filter condition) columns = condition_stays text condition columns
-kind_stays text (Eval fields) columns = fields_stay text fields columns
+kind_stays text (Filter condition) columns span = condition_stays text condition columns span
+kind_stays text (Eval fields) columns span = fields_stay text fields columns span
 kind_stays text (Keep patterns) columns span = inl refl
 kind_stays text (Drop patterns) columns span = inl refl
 kind_stays text (Rename pairs) columns span = inl refl

@@ -35,7 +35,7 @@ pub then_stays : {A B : Type 0} (first : (Regular → Bool) → Result A Broken)
     → Stays (λ accepts. and_then (first accepts) (next accepts))
 then_stays first next stays later span =
     elim (stays span) [
-      | inl same ↦ follows next later span (first is_accepted) (first (accepted_but span)) (first is_accepted) refl same
+      | inl as_before ↦ follows next later span (first is_accepted) (first (accepted_but span)) (first is_accepted) refl as_before
       | inr refuses ↦ inr (ap (λ r. and_then r (next (accepted_but span))) refuses)
     ]
 
@@ -64,7 +64,7 @@ accepted_stays (Some regular) columns standing kind span =
     ]
 
 fitting_stays : (place : Option ℕ) (spans : List Span) (own : Span) (next : (Regular → Bool) → Result Kind Broken) → Stays next → Stays (λ accepts. fitting place spans own (next accepts))
-fitting_stays None spans own next stays = stays
+fitting_stays None spans own next stays span = stays span
 fitting_stays (Some place) spans own next stays span = inl refl
 
 -- a judgement of an expression that stays
@@ -77,45 +77,45 @@ the_judged spared = spared.judges
 
 kinds_stay : (parts : List (Part Spared)) (columns : List Column) (standing : Standing) → Stays (λ accepts. kinds_of_parts (parts_with the_judged parts) (record { columns = columns; standing = standing; accepts = accepts }))
 kinds_stay [] columns standing span = inl refl
-kinds_stay (part ∷ parts) columns standing =
+kinds_stay (part ∷ parts) columns standing span =
     let scope : (Regular → Bool) → Scope = λ accepts. record { columns = columns; standing = standing; accepts = accepts } in
     let rest : (Regular → Bool) → Result (List Kind) Broken = λ accepts. kinds_of_parts (parts_with the_judged parts) (scope accepts) in
     let next : (Regular → Bool) → Kind → Result (List Kind) Broken = λ accepts kind. and_then (rest accepts) (λ kinds. Ok (kind ∷ kinds)) in
     let last : Kind → (Regular → Bool) → List Kind → Result (List Kind) Broken = λ kind accepts kinds. Ok (kind ∷ kinds) in
     then_stays (λ accepts. part.reading.judges (scope accepts)) next (part.reading.is columns standing)
-    (λ kind. then_stays rest (last kind) (kinds_stay parts columns standing) (λ kinds span. inl refl))
+    (λ kind. then_stays rest (last kind) (kinds_stay parts columns standing) (λ kinds span. inl refl)) span
 
 aggregate_stays : (function : AggFunction) (star : Bool) (parts : List (Part Spared)) (own : Span) (columns : List Column) (standing : Standing)
     → Stays (λ accepts. kind_of_aggregate function star (parts_with the_judged parts) own (record { columns = columns; standing = standing; accepts = accepts }))
 aggregate_stays function true parts own columns standing span = inl refl
 aggregate_stays function false [] own columns standing span = inl refl
-aggregate_stays function false (part ∷ []) own columns standing =
+aggregate_stays function false (part ∷ []) own columns standing span =
     let next : (Regular → Bool) → Kind → Result Kind Broken = λ accepts kind. kind_of_argument function kind part.span in
-    then_stays (λ accepts. part.reading.judges (record { columns = columns; standing = in_aggregate; accepts = accepts })) next (part.reading.is columns in_aggregate) (λ kind span. inl refl)
+    then_stays (λ accepts. part.reading.judges (record { columns = columns; standing = in_aggregate; accepts = accepts })) next (part.reading.is columns in_aggregate) (λ kind span. inl refl) span
 aggregate_stays function false (part ∷ more ∷ parts) own columns standing span = inl refl
 
 standing_stays : (function : AggFunction) (star : Bool) (parts : List (Part Spared)) (own : Span) (columns : List Column) (standing : Standing)
     → Stays (λ accepts. kind_of_standing standing function star (parts_with the_judged parts) own (record { columns = columns; standing = standing; accepts = accepts }))
 standing_stays function star parts own columns elsewhere span = inl refl
-standing_stays function star parts own columns in_field = aggregate_stays function star parts own columns in_field
+standing_stays function star parts own columns in_field span = aggregate_stays function star parts own columns in_field span
 standing_stays function star parts own columns in_aggregate span = inl refl
 
 judged_stays : (node : NodeId) (own : Span) (seen : Seen Spared) (columns : List Column) (standing : Standing)
     → Stays (λ accepts. judged node own (seen_with the_judged seen) (record { columns = columns; standing = standing; accepts = accepts }))
 judged_stays node own (constant values kind) columns standing span = inl refl
 judged_stays node own (named name) columns standing span = inl refl
-judged_stays node own (same part) columns standing = part.reading.is columns standing
-judged_stays node own (applied function parts) columns standing =
+judged_stays node own (same part) columns standing span = part.reading.is columns standing span
+judged_stays node own (applied function parts) columns standing span =
     let these : List (Part Judged) = parts_with the_judged parts in
     let scope : (Regular → Bool) → Scope = λ accepts. record { columns = columns; standing = standing; accepts = accepts } in
     let next : (Regular → Bool) → List Kind → Result Kind Broken = λ accepts kinds. kind_of_applied function these kinds own (scope accepts) in
     then_stays (λ accepts. kinds_of_parts these (scope accepts)) next (kinds_stay parts columns standing)
-    (λ kinds. fitting_stays _ (map (λ (part : Part Judged). part.span) these) own _ (accepted_stays (regular_of function these) columns standing _))
-judged_stays node own (aggregate function star parts) columns standing = standing_stays function star parts own columns standing
-judged_stays node own (refused parts rule at) columns standing =
+    (λ kinds. fitting_stays _ (map (λ (part : Part Judged). part.span) these) own _ (accepted_stays (regular_of function these) columns standing _)) span
+judged_stays node own (aggregate function star parts) columns standing span = standing_stays function star parts own columns standing span
+judged_stays node own (refused parts rule at) columns standing span =
     let these : List (Part Judged) = parts_with the_judged parts in
     let next : (Regular → Bool) → List Kind → Result Kind Broken = λ accepts kinds. breaks rule at in
-    then_stays (λ accepts. kinds_of_parts these (record { columns = columns; standing = standing; accepts = accepts })) next (kinds_stay parts columns standing) (λ kinds span. inl refl)
+    then_stays (λ accepts. kinds_of_parts these (record { columns = columns; standing = standing; accepts = accepts })) next (kinds_stay parts columns standing) (λ kinds span. inl refl) span
 
 abbrev spared : Reader Spared
 spared node own seen = record { judges = judged node own (seen_with the_judged seen); is = judged_stays node own seen }

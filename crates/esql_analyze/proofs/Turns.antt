@@ -1,7 +1,10 @@
 -- What is written item after item, each over the columns of those before it.
-use Rattle.std.proofs.Common.{◌≡◌, ℕ, zero, suc, ◌+◌, ◌<◌, Bool, List, [], ◌∷◌, ◌++◌, length, fold, take, drop, get_or, Result, Ok, Err, refl, ap, sym, subst, ◌∙◌, arith}
+use Rattle.std.proofs.Common.{◌≡◌, ℕ, suc, ◌+◌, ◌<◌, Bool, List, [], ◌∷◌, ◌++◌, length, fold, drop, get_or, Result, Ok, Err, refl, ap, sym, subst, ◌∙◌, arith}
 use Rattle.std.specs.List.{flat_map}
+use Rattle.std.proofs.Math.Seq.{drop-cons}
 use Rattle.std.proofs.lemmas.List.{length-append}
+use Rattle.std.proofs.lemmas.Result.{err_from_is_err_and}
+use Rattle.std.specs.Result.{IsErrAnd}
 use Rattle.esql_types.specs.declared.names.Column.{Column}
 use Rattle.esql_ast.specs.declared.nodes.NodeAt.{NodeAt}
 use Rattle.esql_ast.specs.declared.query.Field.{Field}
@@ -105,12 +108,8 @@ along_refused turn items start item rest made error along refused =
 
 -- the item at a place of a list, and what is behind it
 pub dropped : {A : Type 0} (i : ℕ) (xs : List A) (x : A) → i < length xs → x ≡ get_or xs i x → drop i xs ≡ x ∷ drop (i + 1) xs
-dropped i [] x less is = absurd (omega (arith, less))
-dropped zero (y ∷ xs) x less is = λ k. sym is k ∷ xs
-dropped (suc i) (y ∷ xs) x less is = dropped i xs x (omega (arith, less)) is
+dropped i xs x less is = let next : suc i ≡ i + 1 = omega arith in drop-cons xs i x less ∙ (λ k. sym is k ∷ drop (next k) xs)
 
-pub dropped_all : {A : Type 0} (i : ℕ) (xs : List A) → length xs ≡ i → drop i xs ≡ []
-dropped_all zero [] is = refl
-dropped_all (suc i) [] is = refl
-dropped_all zero (x ∷ xs) is = absurd (omega (arith, is))
-dropped_all (suc i) (x ∷ xs) is = dropped_all i xs (omega (arith, is))
+-- what the exit of a `?` gives
+pub err_is : {T E : Type 0} (result : Result T E) (error : E) → IsErrAnd result (λ (other : E). other ≡ error) → result ≡ Err error
+err_is result error is = let found = err_from_is_err_and result is in found.1 ∙ ap Err found.2

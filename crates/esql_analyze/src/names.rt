@@ -63,7 +63,10 @@ pub(crate) fn write_keep(
         steps,
     } = writing;
     let apart = names_apart(alloc, visible).map_err(AnalyzeError::Memory)?;
-    let places = keep_order(alloc, &apart.names, patterns).map_err(pattern_error)?;
+    let places = match keep_order(alloc, &apart.names, patterns) {
+        Ok(places) => places,
+        Err(error) => return Err(pattern_error(error)),
+    };
     let visible = columns_at(alloc, &apart, places.as_slice()).map_err(AnalyzeError::Memory)?;
     Ok(Writing {
         visible,
@@ -89,7 +92,10 @@ pub(crate) fn write_drop(
         steps,
     } = writing;
     let apart = names_apart(alloc, visible).map_err(AnalyzeError::Memory)?;
-    let places = drop_names(alloc, &apart.names, patterns).map_err(pattern_error)?;
+    let places = match drop_names(alloc, &apart.names, patterns) {
+        Ok(places) => places,
+        Err(error) => return Err(pattern_error(error)),
+    };
     let visible = columns_at(alloc, &apart, places.as_slice()).map_err(AnalyzeError::Memory)?;
     Ok(Writing {
         visible,
@@ -115,7 +121,10 @@ pub(crate) fn write_rename(
         steps,
     } = writing;
     let apart = names_apart(alloc, visible).map_err(AnalyzeError::Memory)?;
-    let renamed = rename_pairs(alloc, &apart.names, pairs).map_err(pair_error)?;
+    let renamed = match rename_pairs(alloc, &apart.names, pairs) {
+        Ok(renamed) => renamed,
+        Err(error) => return Err(pair_error(error)),
+    };
     let visible = columns_renamed(alloc, &apart.shown, renamed).map_err(AnalyzeError::Memory)?;
     Ok(Writing {
         visible,

@@ -74,7 +74,10 @@ pub(crate) fn write_source<M: Maker>(
     match command {
         SourceCommand::Tables { span, tables, .. } => {
             let names = tables.as_slice();
-            let columns = columns_of_tables(alloc, catalog, names).map_err(source_error)?;
+            let columns = match columns_of_tables(alloc, catalog, names) {
+                Ok(columns) => columns,
+                Err(error) => return Err(source_error(error)),
+            };
             let begun = scan(alloc, catalog, names, columns).map_err(AnalyzeError::Memory)?;
             let writing = unless_empty(*span, begun.writing)?;
             Ok(Begun {

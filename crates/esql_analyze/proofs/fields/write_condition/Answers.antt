@@ -1,7 +1,5 @@
 use Rattle.std.proofs.Common.{arith}
 use Rattle.esql_analyze.proofs.Expressions.{patterns_at_most}
-use Rattle.esql_analyze.proofs.FieldWrites.{condition_writes, condition_refused}
-use Rattle.esql_analyze.proofs.NameWrites.{kept_writes, left_writes, renamed_writes, pattern_told, pair_told}
 use Rattle.esql_analyze.proofs.fields.write_condition.Goals as goal
 
 pub typed_expr-requires-clause-whole : goal.typed_expr-requires-clause-whole

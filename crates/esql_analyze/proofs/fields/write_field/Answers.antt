@@ -1,4 +1,4 @@
-use Rattle.std.proofs.Common.{List, ap, sym, ◌∙◌, arith}
+use Rattle.std.proofs.Common.{List, length, ap, sym, ◌∙◌, arith}
 use Rattle.esql_plan.specs.declared.plan.OutColumn.{OutColumn}
 use Rattle.text_match.specs.declared.patterns.Patterns.{Patterns}
 use Rattle.row_semantics.specs.Kinds.{kind_or_rule}
@@ -19,7 +19,7 @@ pub returns-in-Ok-clause-writes : goal.returns-in-Ok-clause-writes
 returns-in-Ok-clause-writes g c =
     let expr = c.args.field.now.expr in
     field_writes c.args.text.now c.args.field.now c.args.writing c.in-Ok.writing c.in_ok-typed.typed
-    (c.in_ok-typed.ensures.typed ∙ ap (λ (columns : List OutColumn). typed_of expr (visible_of columns) _ _) c.as_slice.ensures)
+    (c.in_ok-typed.ensures.typed ∙ ap (λ (columns : List OutColumn). typed_of expr (visible_of columns) (length c.args.writing.patterns.whole) (length c.args.writing.patterns.free)) c.as_slice.ensures)
     (ap (λ (columns : List OutColumn). kind_or_rule expr (scope_of is_accepted columns)) (sym c.as_slice.ensures) ∙ c.in_ok-typed.ensures.kind)
     c.in-Ok.ensures.visible c.in-Ok.ensures.next
     (ap (λ (these : Patterns). these.whole) c.in-Ok.ensures.patterns ∙ c.in_ok-typed.ensures.read.0)
