@@ -37,8 +37,7 @@ pub field_writes : (text : List ℕ) (field : Field) (old new : Made) (typed : T
 field_writes text field old new typed is kinded visible next whole free steps =
     let name : List ℕ = name_of_field text field in
     let shown = visible ∙ ap (λ (these : TypedExpr). put_visible old.visible name these.kind old.next) is in
-    let written = steps ∙ ap (λ (these : TypedExpr). old.steps ++ step.Eval (column_at old.next) these ∷ []) is in
-    (
+    let written = steps ∙ ap (λ (these : TypedExpr). old.steps ++ step.Eval (column_at old.next) these ∷ []) is in (
       (λ i. record { visible = shown i; next = next i; whole = whole i; free = free i; steps = written i }),
       ap (λ (found : Result Kind Broken). and_then found (λ kind. Ok (put_column (columns_of old.visible) name kind))) kinded
           ∙ ap (λ (columns : List Column). let shape : Shape = Ok columns in shape) (columns_put old.visible name typed.kind old.next ∙ ap columns_of (sym visible)),
@@ -52,8 +51,7 @@ pub condition_writes : (node : NodeId) (condition : Expr) (old new : Made) (type
     → (seen new ≡ write_condition node condition (seen old)) × (shape_of_condition (over [] is_accepted) condition (columns_of old.visible) ≡ Ok (columns_of new.visible))
 condition_writes node condition old new typed is kinded boolean visible next whole free steps =
     let written = steps ∙ ap (λ (these : TypedExpr). old.steps ++ step.Filter node these ∷ []) is in
-    let columns : List Column = columns_of old.visible in
-    (
+    let columns : List Column = columns_of old.visible in (
       (λ i. record { visible = visible i; next = next i; whole = whole i; free = free i; steps = written i }),
       ap (λ (found : Result Kind Broken). and_then found (λ own. cond (is_kind kind.Boolean own) (Ok columns) (breaks rule.NotBoolean condition.span))) kinded
           ∙ ap (λ (truth : Bool). cond truth (Ok columns) (breaks rule.NotBoolean condition.span)) boolean

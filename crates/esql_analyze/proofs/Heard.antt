@@ -33,11 +33,10 @@ untouched_more count last old mid new first next = record { counted = next.count
 pub heard_more : {M : Type 0} (count : M → ℕ) (last : M → List ℕ) (these those : List Regular) (old mid new : M) (error : AnalyzeError) → IsUntouched count last old mid → IsWithin these those
     → IsHeard count last these mid new error → IsHeard count last those old new error
 heard_more count last these those old mid new (Broken rule span) first within heard = untouched_more count last old mid new first heard
-heard_more count last these those old mid new (PatternRoom span) first within heard =
-    (
-      record { rose = subst (λ n. Rose n (count new)) first.counted heard.0.rose; noted_one = within span (last new) heard.0.noted_one },
-      subst (λ n. n ≤ count new) first.counted heard.1,
-    )
+heard_more count last these those old mid new (PatternRoom span) first within heard = (
+  record { rose = subst (λ n. Rose n (count new)) first.counted heard.0.rose; noted_one = within span (last new) heard.0.noted_one },
+  subst (λ n. n ≤ count new) first.counted heard.1,
+)
 heard_more count last these those old mid new (Memory error) first within heard = untouched_more count last old mid new first heard
 
 -- what is heard, in the words of the public contract

@@ -10,3 +10,4 @@ pub mod NameWrites
 pub mod Tables
 pub mod SourceWrites
 pub mod QueryWrites
+pub mod CommandWrites

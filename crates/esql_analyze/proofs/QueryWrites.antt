@@ -28,8 +28,7 @@ pub query_writes : (text : List ℕ) (catalog : Catalog) (query : Query) (begun 
 query_writes text catalog query begun made last count source commands cut limited =
     let all : seen made ≡ fold (write_command text) (write_source text catalog query.source) query.commands =
     commands.0 ∙ ap (λ (writing : Writing). fold (write_command text) writing query.commands) source.0 in
-    let shown : made.visible ≡ last.visible = sym (ap (λ (writing : Writing). writing.visible) limited) in
-    (
+    let shown : made.visible ≡ last.visible = sym (ap (λ (writing : Writing). writing.visible) limited) in (
       limited ∙ (λ i. write_limit (cut i) (all i)),
       ap (λ (found : Shape). and_then found (shape_of_commands (over_catalog text catalog is_accepted) query.commands)) source.1
           ∙ commands_over text catalog is_accepted query.commands (columns_of begun.visible)

@@ -92,8 +92,13 @@ left_shown patterns visible =
 
 renamed_shown : (pairs : List RenamePair) (visible : List OutColumn) → length (renamed_by visible_as (renamings (visible_names visible) pairs) visible) ≤ length visible
 renamed_shown pairs visible =
-    omega (arith, found_shorter (λ (renaming : Renaming). option_map (visible_as renaming.name) (slice_get visible renaming.place)) (renamings (visible_names visible) pairs),
-    pairs_shorter (placed (visible_names visible)) pairs, placed_length 0 (visible_names visible), names_as_many visible)
+    omega (
+      arith,
+      found_shorter (λ (renaming : Renaming). option_map (visible_as renaming.name) (slice_get visible renaming.place)) (renamings (visible_names visible) pairs),
+      pairs_shorter (placed (visible_names visible)) pairs,
+      placed_length 0 (visible_names visible),
+      names_as_many visible,
+    )
 
 put_shown : (visible : List OutColumn) (name : List ℕ) (kind : Kind) (number : ℕ) → length (put_visible visible name kind number) ≤ length visible + 1
 put_shown visible name kind number =
@@ -161,4 +166,3 @@ kinds_within command writing more room = record { shown = room.shown; columns = 
 
 pub command_room : (text : List ℕ) (command : Command) (writing : Writing) (more : ℕ) → HasRoom writing (length (nodes_of_command command) + more) → HasRoom (write_command text writing command) more
 command_room text command writing more room = kind_room text command.node command.kind writing more (kinds_within command writing more room)
-

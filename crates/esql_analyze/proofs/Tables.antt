@@ -54,10 +54,10 @@ with_in all (first ∷ rest) column these one =
     elim (bytes_eq first.name column.name) as (λ same. AreIn (names_of (cond same (first ∷ rest) (cond (is_lt (slice_cmp nat_cmp column.name first.name)) (column ∷ first ∷ rest) (first ∷ with_column rest column)))) all) [
       | true ↦ these
       | false ↦ elim (is_lt (slice_cmp nat_cmp column.name first.name)) as (λ before. AreIn (names_of (cond before (column ∷ first ∷ rest) (first ∷ with_column rest column))) all) [
-          | true ↦ λ name. either (bytes_eq name column.name) (has (names_of (first ∷ rest)) name) (has all name) (λ is. one name (first_of_two (bytes_eq name column.name) false is)) (these name)
-          | false ↦ λ name. either (bytes_eq name first.name) (has (names_of (with_column rest column)) name) (has all name)
-              (λ is. these name (first_of_two (bytes_eq name first.name) (has (names_of rest) name) is)) (behind name)
-        ]
+        | true ↦ λ name. either (bytes_eq name column.name) (has (names_of (first ∷ rest)) name) (has all name) (λ is. one name (first_of_two (bytes_eq name column.name) false is)) (these name)
+        | false ↦ λ name. either (bytes_eq name first.name) (has (names_of (with_column rest column)) name) (has all name)
+            (λ is. these name (first_of_two (bytes_eq name first.name) (has (names_of rest) name) is)) (behind name)
+      ]
     ]
 
 fold_in : (all : List (List ℕ)) (more columns : List Column) → AreIn (names_of columns) all → AreIn (names_of more) all → AreIn (names_of (fold with_column columns more)) all

@@ -1,10 +1,15 @@
 -- What is begun by a source command, and what is written of a query.
 use Rattle.std.specs.Prelude.{◌≡◌, ℕ, Bool, List, map, Result, Ok, Err}
 use Rattle.esql_types.specs.declared.names.Column.{Column}
+use Rattle.esql_types.specs.declared.places.Span.{Span}
+use Rattle.esql_ast.specs.declared.query.NameAt.{NameAt}
+use Rattle.esql_plan.specs.declared.catalog.Catalog.{Catalog}
 use Rattle.esql_plan.specs.declared.plan.PlanSource.{PlanSource}
 use Rattle.esql_plan.specs.declared.plan.PlanSource.TheVariants.{Scan}
+use Rattle.row_semantics.specs.Kinds.{and_then}
 use Rattle.row_semantics.specs.Regulars.{Regular}
-use Rattle.query_semantics.specs.Shapes.{Shape}
+use Rattle.row_semantics.specs.Sources.{tables_named, columns_of_tables, columns_or_none}
+use Rattle.query_semantics.specs.Shapes.{Shape, unless_empty}
 use Rattle.query_semantics.specs.Written.{Writing, Written, writing_of_columns, numbered_from, scan_column}
 use Rattle.source_columns.specs.declared.refusals.SourceError.{SourceError}
 use Rattle.source_columns.specs.declared.refusals.SourceError.TheVariants as source_error
@@ -36,3 +41,14 @@ IsScanned numbers columns begun = (begun.source ≡ Scan numbers (map scan_colum
 abbrev pub IsScanError : SourceError → AnalyzeError → Type 0
 IsScanError (source_error.Broken rule span) told = told ≡ Broken rule span
 IsScanError (source_error.Memory error) told = IsMemory told
+
+-- the columns of FROM, of which there has to be one
+abbrev pub shape_of_tables : Span → List NameAt → Catalog → Shape
+shape_of_tables span names catalog = and_then (columns_of_tables catalog.tables names) (unless_empty span)
+
+-- each table is read once
+abbrev pub tables_in_plan : List NameAt → Catalog → PlanSource
+tables_in_plan names catalog = Scan (tables_named catalog.tables names) (map scan_column (numbered_from 0 (columns_or_none (columns_of_tables catalog.tables names))))
+
+abbrev pub write_tables : List NameAt → Catalog → Writing
+write_tables names catalog = writing_of_columns (columns_or_none (columns_of_tables catalog.tables names))

@@ -42,7 +42,7 @@ fn write_kind<M: Maker>(
         CommandKind::Keep { patterns } => write_keep(alloc, writing, patterns),
         CommandKind::Drop { patterns } => write_drop(alloc, writing, patterns),
         CommandKind::Rename { pairs } => write_rename(alloc, writing, pairs),
-        CommandKind::Limit { count } => write_limit(*count, writing).map_err(AnalyzeError::Memory),
+        CommandKind::Limit { count } => Ok(write_limit(*count, writing)?),
         _ => unreachable!(),
     }
 }

@@ -172,12 +172,10 @@ pub(crate) fn write_condition<M: Maker>(
         });
     }
     let mut steps = steps;
-    steps
-        .push(Step::Filter {
-            node,
-            condition: typed,
-        })
-        .map_err(AnalyzeError::Memory)?;
+    steps.push(Step::Filter {
+        node,
+        condition: typed,
+    })?;
     Ok(Writing {
         visible,
         next,

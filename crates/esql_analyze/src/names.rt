@@ -62,12 +62,12 @@ pub(crate) fn write_keep(
         patterns: read,
         steps,
     } = writing;
-    let apart = names_apart(alloc, visible).map_err(AnalyzeError::Memory)?;
+    let apart = names_apart(alloc, visible)?;
     let places = match keep_order(alloc, &apart.names, patterns) {
         Ok(places) => places,
         Err(error) => return Err(pattern_error(error)),
     };
-    let visible = columns_at(alloc, &apart, places.as_slice()).map_err(AnalyzeError::Memory)?;
+    let visible = columns_at(alloc, &apart, places.as_slice())?;
     Ok(Writing {
         visible,
         next,
@@ -91,12 +91,12 @@ pub(crate) fn write_drop(
         patterns: read,
         steps,
     } = writing;
-    let apart = names_apart(alloc, visible).map_err(AnalyzeError::Memory)?;
+    let apart = names_apart(alloc, visible)?;
     let places = match drop_names(alloc, &apart.names, patterns) {
         Ok(places) => places,
         Err(error) => return Err(pattern_error(error)),
     };
-    let visible = columns_at(alloc, &apart, places.as_slice()).map_err(AnalyzeError::Memory)?;
+    let visible = columns_at(alloc, &apart, places.as_slice())?;
     Ok(Writing {
         visible,
         next,
@@ -120,12 +120,12 @@ pub(crate) fn write_rename(
         patterns,
         steps,
     } = writing;
-    let apart = names_apart(alloc, visible).map_err(AnalyzeError::Memory)?;
+    let apart = names_apart(alloc, visible)?;
     let renamed = match rename_pairs(alloc, &apart.names, pairs) {
         Ok(renamed) => renamed,
         Err(error) => return Err(pair_error(error)),
     };
-    let visible = columns_renamed(alloc, &apart.shown, renamed).map_err(AnalyzeError::Memory)?;
+    let visible = columns_renamed(alloc, &apart.shown, renamed)?;
     Ok(Writing {
         visible,
         next,

@@ -73,7 +73,7 @@ fn write_query<M: Maker>(
     let begun = write_source(alloc, text, &query.source, catalog, maker)?;
     let commands = query.commands.as_slice();
     let writing = write_commands(alloc, text, begun.writing, commands, maker)?;
-    let writing = write_limit(last_count(query), writing).map_err(AnalyzeError::Memory)?;
+    let writing = write_limit(last_count(query), writing)?;
     Ok(Begun {
         source: begun.source,
         writing,

@@ -1,21 +1,23 @@
-ghost use Rattle.std.specs.Prelude.{◌≤◌, length, IfOk};
-ghost use Rattle.esql_ast.specs.Fits.{SourceFits};
-ghost use Rattle.esql_ast.specs.Nodes.{nodes_of_source};
+ghost use Rattle.std.specs.Prelude.{◌≤◌, [], length, IfOk};
+ghost use Rattle.std.specs.List.{flat_map};
+ghost use Rattle.esql_ast.specs.Fits.{FieldsFit, SourceFits};
+ghost use Rattle.esql_ast.specs.Nodes.{nodes_of_field, nodes_of_source};
+ghost use Rattle.esql_plan.specs.declared.plan.PlanSource.TheVariants.{OneRow};
 ghost use Rattle.row_semantics.specs.Sources.{tables_named};
 ghost use Rattle.query_semantics.specs.Catalogs.{IsCatalog};
-ghost use Rattle.query_semantics.specs.Shapes.{shape_of_source};
-ghost use Rattle.query_semantics.specs.Written.{source_in_plan, write_source};
-ghost use Rattle.esql_analyze.specs.Contexts.{over_catalog};
+ghost use Rattle.query_semantics.specs.Shapes.{shape_of_fields, shape_of_source};
+ghost use Rattle.query_semantics.specs.Written.{source_in_plan, write_fields, write_source, writing_of_columns};
+ghost use Rattle.esql_analyze.specs.Contexts.{over, over_catalog};
 ghost use Rattle.esql_analyze.specs.Answers.{Hears};
-ghost use Rattle.esql_analyze.specs.Regulars.{regulars_of_source};
-ghost use Rattle.esql_analyze.specs.Plans.{Begins, IsScanError, IsScanned};
+ghost use Rattle.esql_analyze.specs.Regulars.{regulars_of_field, regulars_of_source};
+ghost use Rattle.esql_analyze.specs.Plans.{Begins, IsScanError, IsScanned, shape_of_tables, tables_in_plan, write_tables};
 
 use crate::columns::{numbered, scan_columns};
 use crate::fields::write_fields;
 use crate::writing::{Writing, begin, unless_empty};
-use esql_ast::{NameAt, SourceCommand};
+use esql_ast::{Field, NameAt, SourceCommand};
 use esql_plan::{Catalog, PlanSource};
-use esql_types::{Column, Maker, Seq};
+use esql_types::{Column, Maker, Seq, Span};
 use expression_analysis::AnalyzeError;
 use source_columns::{SourceError, columns_of_tables, tables_named};
 use std::alloc::{AllocError, Global};
@@ -57,6 +59,48 @@ fn scan(
     })
 }
 
+// FROM: the columns of tables, of which there has to be one.
+fn from_tables(
+    alloc: Global,
+    span: Span,
+    names: &[NameAt],
+    catalog: &Catalog,
+) -> Result<Begun, AnalyzeError>
+    requires { IsCatalog catalog.now }
+    ensures { Begins (λ accepts. shape_of_tables span names.now catalog.now) (tables_in_plan names.now catalog.now) (write_tables names.now catalog.now) result }
+{
+    let columns = match columns_of_tables(alloc, catalog, names) {
+        Ok(columns) => columns,
+        Err(error) => return Err(source_error(error)),
+    };
+    let begun = scan(alloc, catalog, names, columns)?;
+    let writing = unless_empty(span, begun.writing)?;
+    Ok(Begun {
+        source: begun.source,
+        writing,
+    })
+}
+
+// ROW: a column for each field, over no columns.
+fn from_row<M: Maker>(
+    alloc: Global,
+    text: &str,
+    fields: &[Field],
+    maker: &mut M,
+) -> Result<Begun, AnalyzeError>
+    requires fits { FieldsFit text.now fields.now }
+    requires few { length (flat_map nodes_of_field fields.now) ≤ 65537 }
+    ensures begins { Begins (λ accepts. shape_of_fields (over text.now accepts) fields.now []) OneRow (write_fields text.now fields.now (writing_of_columns [])) result }
+    ensures hears { Hears M.refused M.last (flat_map regulars_of_field fields.now) maker.old maker.new result }
+{
+    let empty = begin(alloc, Seq::new(alloc), 0);
+    let writing = write_fields(alloc, text, empty, fields, maker)?;
+    Ok(Begun {
+        source: PlanSource::OneRow,
+        writing,
+    })
+}
+
 /// FROM reads each table once, and numbers its columns in their order; ROW has the columns of its fields.
 pub(crate) fn write_source<M: Maker>(
     alloc: Global,
@@ -73,25 +117,8 @@ pub(crate) fn write_source<M: Maker>(
 {
     match command {
         SourceCommand::Tables { span, tables, .. } => {
-            let names = tables.as_slice();
-            let columns = match columns_of_tables(alloc, catalog, names) {
-                Ok(columns) => columns,
-                Err(error) => return Err(source_error(error)),
-            };
-            let begun = scan(alloc, catalog, names, columns).map_err(AnalyzeError::Memory)?;
-            let writing = unless_empty(*span, begun.writing)?;
-            Ok(Begun {
-                source: begun.source,
-                writing,
-            })
+            from_tables(alloc, *span, tables.as_slice(), catalog)
         }
-        SourceCommand::OneRow { fields, .. } => {
-            let empty = begin(alloc, Seq::new(alloc), 0);
-            let writing = write_fields(alloc, text, empty, fields.as_slice(), maker)?;
-            Ok(Begun {
-                source: PlanSource::OneRow,
-                writing,
-            })
-        }
+        SourceCommand::OneRow { fields, .. } => from_row(alloc, text, fields.as_slice(), maker),
     }
 }
