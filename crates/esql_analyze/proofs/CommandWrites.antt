@@ -1,11 +1,12 @@
 -- A command writes what it is to write, and what the maker is not asked for it does not tell.
-use Rattle.std.proofs.Common.{◌≡◌, ℕ, Bool, true, false, cond, List, [], ◌∷◌, Option, Some, None, Result, Ok, Err, refl, ap, ◌∙◌}
+use Rattle.std.proofs.Common.{◌≡◌, ℕ, Bool, true, false, cond, List, [], ◌∷◌, Option, Some, None, Result, Ok, Err, refl, ap, subst, ◌∙◌}
 use Rattle.esql_types.specs.declared.places.Span.{Span}
 use Rattle.esql_types.specs.declared.names.Column.{Column}
 use Rattle.esql_ast.specs.declared.query.Command.{Command}
 use Rattle.esql_ast.specs.declared.query.NamePattern.{NamePattern}
 use Rattle.esql_ast.specs.declared.query.RenamePair.{RenamePair}
 use Rattle.plan_semantics.specs.Plans.{columns_of}
+use Rattle.row_semantics.specs.declared.rule.NameRule.{NameRule}
 use Rattle.row_semantics.specs.declared.rule.NameRule.TheVariants as rule
 use Rattle.row_semantics.specs.Kinds.{and_then}
 use Rattle.row_semantics.specs.Regulars.{Regular, is_accepted}
@@ -25,21 +26,34 @@ use Rattle.esql_analyze.proofs.ShapeStays.{refused_behind, refused_first, kind_s
 abbrev pub IsPlain : Shape → Type 0
 IsPlain shape = (span : Span) → shape ≡ Err (record { rule = rule.BadRegex; span = span }) → ⊥
 
+abbrev pub rule_in : Shape → Option NameRule
+rule_in (Ok columns) = None
+rule_in (Err broken) = Some broken.rule
+
+-- another rule than that of patterns, or none
+abbrev pub IsOther : Option NameRule → Type 0
+IsOther None = Unit {0}
+IsOther (Some rule.BadRegex) = ⊥
+IsOther (Some other) = Unit {0}
+
+pub other_plain : (shape : Shape) → IsOther (rule_in shape) → IsPlain shape
+other_plain shape other span is = subst IsOther (ap rule_in is) other
+
 pub unmet_plain : (unmet : Option NamePattern) (columns : List Column) → IsPlain (unless_unmet unmet columns)
-unmet_plain None columns span is = cc
-unmet_plain (Some pattern) columns span is = by_wild pattern.wild pattern.span is
+unmet_plain None columns span is = other_plain (unless_unmet None columns) tt span is
+unmet_plain (Some pattern) columns span is = other_plain (unless_unmet (Some pattern) columns) (by_wild pattern.wild) span is
   where
-    by_wild : (wild : Bool) (at : Span) → ◌≡◌ {A = Shape} (Err (record { rule = cond wild rule.NoMatch rule.UnknownColumn; span = at })) (Err (record { rule = rule.BadRegex; span = span })) → ⊥
-    by_wild true at same = cc
-    by_wild false at same = cc
+    by_wild : (wild : Bool) → IsOther (Some (cond wild rule.NoMatch rule.UnknownColumn))
+    by_wild true = tt
+    by_wild false = tt
 
 pub missing_plain : (missing : Option RenamePair) (columns : List Column) → IsPlain (unless_missing missing columns)
-missing_plain None columns span is = cc
-missing_plain (Some pair) columns span is = cc
+missing_plain None columns span is = other_plain (unless_missing None columns) tt span is
+missing_plain (Some pair) columns span is = other_plain (unless_missing (Some pair) columns) tt span is
 
 pub empty_plain : (at : Span) (columns : List Column) → IsPlain (unless_empty at columns)
-empty_plain at [] span is = cc
-empty_plain at (column ∷ columns) span is = cc
+empty_plain at [] span is = other_plain (unless_empty at []) tt span is
+empty_plain at (column ∷ columns) span is = other_plain (unless_empty at (column ∷ columns)) tt span is
 
 -- the maker is as it was where it was not asked
 untouched : {M : Type 0} (count : M → ℕ) (last : M → List ℕ) (old : M) → IsUntouched count last old old

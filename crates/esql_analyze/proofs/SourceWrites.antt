@@ -43,7 +43,7 @@ use Rattle.esql_analyze.specs.Answers.{Hears}
 use Rattle.esql_analyze.proofs.Stays.{Stays}
 use Rattle.esql_analyze.proofs.ShapeStays.{refused_behind, refused_first, refused_as, fields_over}
 use Rattle.esql_analyze.proofs.NameWrites.{as_told, in_memory}
-use Rattle.esql_analyze.proofs.CommandWrites.{IsPlain, empty_plain}
+use Rattle.esql_analyze.proofs.CommandWrites.{IsPlain, other_plain, empty_plain}
 
 -- FROM --------------------------------------------------------------------------------------------------------------------
 
@@ -81,11 +81,11 @@ empty_told span names catalog columns begun error are scanned refused =
 
 -- FROM breaks no rule of patterns
 either_plain : (clash : Bool) (at : Span) (columns : List Column) → IsPlain (cond clash (breaks rule.BadKind at) (Ok columns))
-either_plain true at columns span is = cc
-either_plain false at columns span is = cc
+either_plain true at columns span is = other_plain (breaks rule.BadKind at) tt span is
+either_plain false at columns span is = other_plain (Ok columns) tt span is
 
 table_plain : (name : NameAt) (table : Option TableShape) (columns : List Column) → IsPlain (with_table name table columns)
-table_plain name None columns span is = cc
+table_plain name None columns span is = other_plain (breaks rule.UnknownTable name.span) tt span is
 table_plain name (Some table) columns span is = either_plain (list_any (clashes columns) table.columns) name.span (fold with_column columns table.columns) span is
 
 then_plain : (first : Shape) (next : List Column → Shape) → IsPlain first → ((columns : List Column) → IsPlain (next columns)) → IsPlain (and_then first next)
@@ -93,7 +93,7 @@ then_plain (Ok columns) next plain later span is = later columns span is
 then_plain (Err broken) next plain later span is = plain span (ap (λ (these : Shape). these) is)
 
 all_plain : (catalog : List TableShape) (names : List NameAt) (columns : List Column) → IsPlain (with_tables catalog names columns)
-all_plain catalog [] columns span is = cc
+all_plain catalog [] columns span is = other_plain (Ok columns) tt span is
 all_plain catalog (name ∷ names) columns span is =
     then_plain (with_table name (table_named catalog name.name) columns) (with_tables catalog names) (table_plain name (table_named catalog name.name) columns) (λ more. all_plain catalog names more) span is
 

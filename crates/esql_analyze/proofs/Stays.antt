@@ -9,11 +9,12 @@ use Rattle.esql_types.specs.declared.names.NodeId.{NodeId}
 use Rattle.esql_ast.specs.declared.expr.Expr.{Expr}
 use Rattle.esql_plan.specs.declared.function.Function.{Function}
 use Rattle.esql_plan.specs.declared.function.AggFunction.{AggFunction}
+use Rattle.esql_plan.specs.Signatures.{misfit, kind_of_call}
 use Rattle.row_semantics.specs.declared.rule.NameRule.TheVariants as rule
-use Rattle.row_semantics.specs.Forms.{Part, Seen, constant, named, same, applied, aggregate, refused, Reader, read_by}
+use Rattle.row_semantics.specs.Forms.{Part, Seen, constant, named, same, applied, aggregate, refused, Reader, read_by, function_in_plan, arguments_in_plan}
 use Rattle.row_semantics.specs.Regulars.{Regular, is_accepted}
 use Rattle.row_semantics.specs.Scopes.{Broken, Standing, elsewhere, in_field, in_aggregate, Scope}
-use Rattle.row_semantics.specs.Kinds.{Judged, judged, breaks, and_then, kinds_of_parts, kind_of_applied, regular_of, if_accepted, fitting, kind_of_argument, kind_of_aggregate, kind_of_standing, kind_or_rule}
+use Rattle.row_semantics.specs.Kinds.{Judged, judged, breaks, and_then, kinds_of_parts, kind_of_applied, wrong_literal, regular_of, first_place, if_accepted, fitting, kind_of_argument, kind_of_aggregate, kind_of_standing, kind_or_rule}
 use Rattle.written_laws.proofs.Readings.{part_with, parts_with, seen_with, read_made}
 use Rattle.expression_analysis.specs.Answers.{accepted_but, same_span}
 
@@ -100,6 +101,14 @@ standing_stays function star parts own columns elsewhere span = inl refl
 standing_stays function star parts own columns in_field span = aggregate_stays function star parts own columns in_field span
 standing_stays function star parts own columns in_aggregate span = inl refl
 
+applied_stays : (function : Function) (these : List (Part Judged)) (kinds : List Kind) (own : Span) (columns : List Column) (standing : Standing)
+    → Stays (λ accepts. kind_of_applied function these kinds own (record { columns = columns; standing = standing; accepts = accepts }))
+applied_stays function these kinds own columns standing =
+    let kind : Kind = kind_of_call (function_in_plan function these) (arguments_in_plan function kinds) in
+    fitting_stays (first_place (misfit (function_in_plan function these) (arguments_in_plan function kinds)) (wrong_literal function these)) (map (λ (part : Part Judged). part.span) these) own
+    (λ accepts. if_accepted (regular_of function these) (record { columns = columns; standing = standing; accepts = accepts }) kind)
+    (accepted_stays (regular_of function these) columns standing kind)
+
 judged_stays : (node : NodeId) (own : Span) (seen : Seen Spared) (columns : List Column) (standing : Standing)
     → Stays (λ accepts. judged node own (seen_with the_judged seen) (record { columns = columns; standing = standing; accepts = accepts }))
 judged_stays node own (constant values kind) columns standing span = inl refl
@@ -110,7 +119,7 @@ judged_stays node own (applied function parts) columns standing span =
     let scope : (Regular → Bool) → Scope = λ accepts. record { columns = columns; standing = standing; accepts = accepts } in
     let next : (Regular → Bool) → List Kind → Result Kind Broken = λ accepts kinds. kind_of_applied function these kinds own (scope accepts) in
     then_stays (λ accepts. kinds_of_parts these (scope accepts)) next (kinds_stay parts columns standing)
-    (λ kinds. fitting_stays _ (map (λ (part : Part Judged). part.span) these) own _ (accepted_stays (regular_of function these) columns standing _)) span
+    (λ kinds. applied_stays function these kinds own columns standing) span
 judged_stays node own (aggregate function star parts) columns standing span = standing_stays function star parts own columns standing span
 judged_stays node own (refused parts rule at) columns standing span =
     let these : List (Part Judged) = parts_with the_judged parts in
