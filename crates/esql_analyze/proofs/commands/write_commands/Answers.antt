@@ -22,7 +22,7 @@ returns-in_err-writing-clause-writes g c =
     let made = c.loop-command.writing in
     let i = c.loop-command.command-index in
     let item = c.command-item.result in
-    let error = c.in_err-writing.command-0.0 in
+    let error = c.in_err-writing.field-0.0 in
     let along = subst (λ (rest : List Command). Along (commands_turn text) commands start rest made) (dropped i commands item c.loop-command-test.true c.command-item.is) c.loop-command.invariant.along in
     subst (λ (result : Result Made AnalyzeError). Writes (λ accepts. shape_of_commands (over text accepts) commands (columns_of start.visible)) (fold (write_command text) (seen start) commands) result)
     (sym (err_is c.from_residual.result error c.from_residual.ensures.1))
@@ -33,7 +33,7 @@ returns-in_err-writing-clause-hears g c =
     let commands = c.args.commands.now in
     let i = c.loop-command.command-index in
     let item = c.command-item.result in
-    let error = c.in_err-writing.command-0.0 in
+    let error = c.in_err-writing.field-0.0 in
     subst (λ (result : Result Made AnalyzeError). Hears g.M.Maker.refused g.M.Maker.last (flat_map regulars_of_command commands) c.args.maker.now c.write_command.new.maker result)
     (sym (err_is c.from_residual.result error c.from_residual.ensures.1))
     (heard_more g.M.Maker.refused g.M.Maker.last (regulars_of_command item) (flat_map regulars_of_command commands) c.args.maker.now c.loop-command.maker c.write_command.new.maker error
