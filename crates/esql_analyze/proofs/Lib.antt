@@ -1,0 +1,13 @@
+pub mod Parted
+pub mod Stays
+pub mod ShapeStays
+pub mod Expressions
+pub mod FieldWrites
+pub mod Rooms
+pub mod Turns
+pub mod Heard
+pub mod NameWrites
+pub mod Tables
+pub mod SourceWrites
+pub mod QueryWrites
+pub mod CommandWrites

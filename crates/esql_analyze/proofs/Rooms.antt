@@ -1,0 +1,168 @@
+-- What is written takes room for as many columns, and as many patterns of each kind, as there are nodes at most.
+use Rattle.std.proofs.Common.{◌≡◌, ℕ, ◌+◌, ◌<◌, ◌≤◌, Bool, true, false, not, cond, ◌||◌, ◌==◌, eqb, List, [], ◌∷◌, ◌++◌, map, filter, length, fold, All, Option, Some, None, refl, ap, sym, subst, ◌∙◌, arith}
+use Rattle.std.specs.Prelude.{slice_get}
+use Rattle.std.specs.List.{flat_map, filter_map, cons_option, list_any}
+use Rattle.std.specs.Option.{option_map}
+use Rattle.std.specs.Str.{bytes_eq}
+use Rattle.std.proofs.lemmas.Bool.Decides.{nat_tests}
+use Rattle.std.proofs.lemmas.List.{length-append, length-map}
+use Rattle.std.proofs.lemmas.List.Elements.{All-head, All-tail, All-weaker}
+use Rattle.std.proofs.lemmas.Map.Steps.{length-le_from_distinct_below}
+use Rattle.esql_types.specs.declared.names.NodeId.{NodeId}
+use Rattle.esql_types.specs.declared.value.Kind.{Kind}
+use Rattle.esql_ast.specs.declared.expr.Expr.{Expr}
+use Rattle.esql_ast.specs.declared.query.Field.{Field}
+use Rattle.esql_ast.specs.declared.query.Command.{Command}
+use Rattle.esql_ast.specs.declared.query.CommandKind.{CommandKind}
+use Rattle.esql_ast.specs.declared.query.CommandKind.TheVariants.{Filter, Eval, Keep, Drop, Rename, Sort, Limit, Expand, Stats, Dissect, Grok, Enrich, Join}
+use Rattle.esql_ast.specs.declared.query.NamePattern.{NamePattern}
+use Rattle.esql_ast.specs.declared.query.RenamePair.{RenamePair}
+use Rattle.esql_ast.specs.NameRules.{Renaming, placed_from, placed, places_where, keep_places, drop_places, is_met, at_places, stays, with_new_name, rename_pair, is_there, with_pair, renamings, renamed_by}
+use Rattle.esql_ast.specs.NameLaws.{IsKept}
+use Rattle.esql_ast.specs.Nodes.{nodes_of_expr, nodes_of_field, nodes_of_kind, nodes_of_command}
+use Rattle.esql_ast.proofs.KeptOnce.{kept_differ, kept_are_won}
+use Rattle.esql_plan.specs.declared.plan.OutColumn.{OutColumn}
+use Rattle.row_semantics.specs.Typed.{typing_of}
+use Rattle.query_semantics.specs.Written.{Writing, put_visible, visible_names, visible_as, typed_in, write_field, write_fields, write_condition, write_kind, write_command}
+use Rattle.row_semantics.specs.Fields.{name_of_field}
+use Rattle.esql_analyze.specs.Writings.{HasRoom}
+use Rattle.esql_analyze.proofs.Expressions.{patterns_at_most, some_node}
+
+-- lengths -------------------------------------------------------------------------------------------------------------------
+
+filter_shorter : {A : Type 0} (test : A → Bool) (xs : List A) → length (filter test xs) ≤ length xs
+filter_shorter test [] = omega arith
+filter_shorter test (x ∷ xs) =
+    let rest = filter_shorter test xs in
+    elim (test x) as (λ passes. length (cond passes (x ∷ filter test xs) (filter test xs)) ≤ length (x ∷ xs)) [ true ↦ omega (arith, rest) | false ↦ omega (arith, rest) ]
+
+found_shorter : {A B : Type 0} (f : A → Option B) (xs : List A) → length (filter_map f xs) ≤ length xs
+found_shorter f [] = omega arith
+found_shorter {B = B} f (x ∷ xs) = by_found (f x) (found_shorter f xs)
+  where
+    by_found : (found : Option B) → length (filter_map f xs) ≤ length xs → length (cons_option found (filter_map f xs)) ≤ length (x ∷ xs)
+    by_found None rest = omega (arith, rest)
+    by_found (Some y) rest = omega (arith, rest)
+
+placed_length : (place : ℕ) (names : List (List ℕ)) → length (placed_from place names) ≡ length names
+placed_length place [] = refl
+placed_length place (name ∷ names) = let rest = placed_length (place + 1) names in omega (arith, rest)
+
+drop_shorter : (names : List (List ℕ)) (patterns : List NamePattern) → length (drop_places names patterns) ≤ length names
+drop_shorter names patterns =
+    let left : List Renaming = filter (λ (renaming : Renaming). not (is_met patterns renaming.name)) (placed names) in
+    omega (arith, length-map left (λ (renaming : Renaming). renaming.place), filter_shorter (λ (renaming : Renaming). not (is_met patterns renaming.name)) (placed names), placed_length 0 names)
+
+any_below : (n : ℕ) (xs : List ℕ) → All (λ (x : ℕ). x < n) xs → (q : ℕ) → list_any (eqb q) xs ≡ true → q < n
+any_below n [] all q is = absurd cc
+any_below n (x ∷ xs) all q is = by_first (eqb q x) refl (any_below n xs (All-tail (λ (x : ℕ). x < n) x xs all) q) is
+  where
+    by_first : (here : Bool) → eqb q x ≡ here → (list_any (eqb q) xs ≡ true → q < n) → (here || list_any (eqb q) xs) ≡ true → q < n
+    by_first true same rest there = let below = All-head (λ (x : ℕ). x < n) x xs all in grind (arith, nat_tests)
+    by_first false same rest there = rest there
+
+keep_shorter : (names : List (List ℕ)) (patterns : List NamePattern) → length (keep_places names patterns) ≤ length names
+keep_shorter names patterns =
+    length-le_from_distinct_below (keep_places names patterns) (length names) (kept_differ names patterns)
+    (any_below (length names) (keep_places names patterns)
+    (All-weaker (IsKept names patterns) (λ (place : ℕ). place < length names) (λ place kept. kept.below) (keep_places names patterns) (kept_are_won names patterns)))
+
+pair_shorter : (these : List Renaming) (pair : RenamePair) → length (with_pair these pair) ≤ length these
+pair_shorter these pair =
+    let left = filter_shorter (stays pair) these in
+    let same = length-map (filter (stays pair) these) (with_new_name pair) in
+    elim (is_there these pair.before.name) as (λ there. length (cond there (rename_pair these pair) these) ≤ length these) [ true ↦ omega (arith, left, same) | false ↦ omega arith ]
+
+pairs_shorter : (these : List Renaming) (pairs : List RenamePair) → length (fold with_pair these pairs) ≤ length these
+pairs_shorter these [] = omega arith
+pairs_shorter these (pair ∷ pairs) = omega (arith, pairs_shorter (with_pair these pair) pairs, pair_shorter these pair)
+
+-- the columns that can be seen ----------------------------------------------------------------------------------------------
+
+names_as_many : (visible : List OutColumn) → length (visible_names visible) ≡ length visible
+names_as_many visible = length-map visible (λ (column : OutColumn). column.name)
+
+kept_shown : (patterns : List NamePattern) (visible : List OutColumn) → length (at_places (keep_places (visible_names visible) patterns) visible) ≤ length visible
+kept_shown patterns visible =
+    omega (arith, found_shorter (λ (place : ℕ). slice_get visible place) (keep_places (visible_names visible) patterns), keep_shorter (visible_names visible) patterns, names_as_many visible)
+
+left_shown : (patterns : List NamePattern) (visible : List OutColumn) → length (at_places (drop_places (visible_names visible) patterns) visible) ≤ length visible
+left_shown patterns visible =
+    omega (arith, found_shorter (λ (place : ℕ). slice_get visible place) (drop_places (visible_names visible) patterns), drop_shorter (visible_names visible) patterns, names_as_many visible)
+
+renamed_shown : (pairs : List RenamePair) (visible : List OutColumn) → length (renamed_by visible_as (renamings (visible_names visible) pairs) visible) ≤ length visible
+renamed_shown pairs visible =
+    omega (
+      arith,
+      found_shorter (λ (renaming : Renaming). option_map (visible_as renaming.name) (slice_get visible renaming.place)) (renamings (visible_names visible) pairs),
+      pairs_shorter (placed (visible_names visible)) pairs,
+      placed_length 0 (visible_names visible),
+      names_as_many visible,
+    )
+
+put_shown : (visible : List OutColumn) (name : List ℕ) (kind : Kind) (number : ℕ) → length (put_visible visible name kind number) ≤ length visible + 1
+put_shown visible name kind number =
+    let kept : List OutColumn = filter (λ (column : OutColumn). not (bytes_eq column.name name)) visible in
+    omega (arith, length-append kept (record { name = name; kind = kind; id = record { 0 = number } } ∷ []), filter_shorter (λ (column : OutColumn). not (bytes_eq column.name name)) visible)
+
+-- room ----------------------------------------------------------------------------------------------------------------------
+
+pub field_room : (text : List ℕ) (field : Field) (writing : Writing) (more : ℕ) → HasRoom writing (length (nodes_of_field field) + more) → HasRoom (write_field text writing field) more
+field_room text field writing more room =
+    let most = patterns_at_most field.expr in
+    let some = some_node field.expr in
+    let shown = put_shown writing.visible (name_of_field text field) (typed_in writing field.expr).kind writing.next in
+    record {
+      shown = omega (arith, room.shown, shown);
+      columns = omega (arith, room.columns, some);
+      whole = omega (arith, room.whole, most.whole, length-append writing.whole (typing_of field.expr).whole);
+      free = omega (arith, room.free, most.free, length-append writing.free (typing_of field.expr).free);
+    }
+
+pub fields_room : (text : List ℕ) (fields : List Field) (writing : Writing) (more : ℕ) → HasRoom writing (length (flat_map nodes_of_field fields) + more) → HasRoom (write_fields text fields writing) more
+fields_room text [] writing more room = record { shown = room.shown; columns = omega (arith, room.columns); whole = omega (arith, room.whole); free = omega (arith, room.free) }
+fields_room text (field ∷ fields) writing more room =
+    let both = length-append (nodes_of_field field) (flat_map nodes_of_field fields) in
+    let ahead : HasRoom writing (length (nodes_of_field field) + (length (flat_map nodes_of_field fields) + more)) =
+    record { shown = room.shown; columns = omega (arith, room.columns, both); whole = omega (arith, room.whole, both); free = omega (arith, room.free, both) } in
+    fields_room text fields (write_field text writing field) more (field_room text field writing _ ahead)
+
+condition_room : (node : NodeId) (condition : Expr) (writing : Writing) (more : ℕ) → HasRoom writing (length (nodes_of_expr condition) + more) → HasRoom (write_condition node condition writing) more
+condition_room node condition writing more room =
+    let most = patterns_at_most condition in
+    record {
+      shown = room.shown;
+      columns = omega (arith, room.columns);
+      whole = omega (arith, room.whole, most.whole, length-append writing.whole (typing_of condition).whole);
+      free = omega (arith, room.free, most.free, length-append writing.free (typing_of condition).free);
+    }
+
+-- what changes only the columns that can be seen, and makes none
+fewer_room : (writing : Writing) (visible : List OutColumn) (taken more : ℕ) → length visible ≤ length writing.visible → HasRoom writing (taken + more) → HasRoom (record writing { visible = visible }) more
+fewer_room writing visible taken more fewer room =
+    record { shown = omega (arith, room.shown, fewer); columns = omega (arith, room.columns); whole = omega (arith, room.whole); free = omega (arith, room.free) }
+
+same_room : (writing : Writing) (taken more : ℕ) → HasRoom writing (taken + more) → HasRoom writing more
+same_room writing taken more room = record { shown = room.shown; columns = omega (arith, room.columns); whole = omega (arith, room.whole); free = omega (arith, room.free) }
+
+kind_room : (text : List ℕ) (node : NodeId) (kind : CommandKind) (writing : Writing) (more : ℕ) → HasRoom writing (length (nodes_of_kind kind) + more) → HasRoom (write_kind text node kind writing) more
+kind_room text node (Filter condition) writing more room = condition_room node condition writing more room
+kind_room text node (Eval fields) writing more room = fields_room text fields writing more room
+kind_room text node (Keep patterns) writing more room = fewer_room writing _ 0 more (kept_shown patterns writing.visible) room
+kind_room text node (Drop patterns) writing more room = fewer_room writing _ 0 more (left_shown patterns writing.visible) room
+kind_room text node (Rename pairs) writing more room = fewer_room writing _ 0 more (renamed_shown pairs writing.visible) room
+kind_room text node (Limit count) writing more room = record { shown = room.shown; columns = omega (arith, room.columns); whole = omega (arith, room.whole); free = omega (arith, room.free) }
+kind_room text node (Sort keys) writing more room = same_room writing _ more room
+kind_room text node (Expand column) writing more room = same_room writing _ more room
+kind_room text node (Stats fields groups) writing more room = same_room writing _ more room
+kind_room text node (Dissect input pattern separator) writing more room = same_room writing _ more room
+kind_room text node (Grok input pattern) writing more room = same_room writing _ more room
+kind_room text node (Enrich policy on fields) writing more room = same_room writing _ more room
+kind_room text node (Join table on) writing more room = same_room writing _ more room
+
+-- a command's own node comes before those of its expressions
+pub kinds_within : (command : Command) (writing : Writing) (more : ℕ) → HasRoom writing (length (nodes_of_command command) + more) → HasRoom writing (length (nodes_of_kind command.kind) + more)
+kinds_within command writing more room = record { shown = room.shown; columns = omega (arith, room.columns); whole = omega (arith, room.whole); free = omega (arith, room.free) }
+
+pub command_room : (text : List ℕ) (command : Command) (writing : Writing) (more : ℕ) → HasRoom writing (length (nodes_of_command command) + more) → HasRoom (write_command text writing command) more
+command_room text command writing more room = kind_room text command.node command.kind writing more (kinds_within command writing more room)

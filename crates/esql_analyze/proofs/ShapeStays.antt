@@ -1,0 +1,140 @@
+-- Where one more pattern is not accepted, the shapes of commands are as they were, or refuse at that pattern; and how refusals go
+-- on behind what was judged before.
+use Rattle.std.proofs.Common.{◌≡◌, ◌⊎◌, inl, inr, ℕ, Bool, List, [], ◌∷◌, Result, Ok, Err, refl, ap, sym, ◌∙◌}
+use Rattle.std.specs.Prelude.{if◌then◌else◌}
+use Rattle.esql_types.specs.declared.places.Span.{Span}
+use Rattle.esql_types.specs.declared.value.Kind.{Kind}
+use Rattle.esql_types.specs.declared.value.Kind.TheVariants as kind
+use Rattle.esql_types.specs.declared.names.Column.{Column}
+use Rattle.esql_ast.specs.declared.expr.Expr.{Expr}
+use Rattle.esql_ast.specs.declared.query.Field.{Field}
+use Rattle.esql_ast.specs.declared.query.Command.{Command}
+use Rattle.esql_ast.specs.declared.query.CommandKind.{CommandKind}
+use Rattle.esql_ast.specs.declared.query.CommandKind.TheVariants.{Filter, Eval, Keep, Drop, Rename, Sort, Limit, Expand, Stats, Dissect, Grok, Enrich, Join}
+use Rattle.esql_ast.specs.declared.query.SourceCommand.{SourceCommand}
+use Rattle.esql_ast.specs.declared.query.SourceCommand.TheVariants.{Tables, OneRow}
+use Rattle.esql_plan.specs.declared.catalog.Catalog.{Catalog}
+use Rattle.esql_plan.specs.Signatures.{is_kind}
+use Rattle.row_semantics.specs.declared.rule.NameRule.TheVariants as rule
+use Rattle.row_semantics.specs.Fields.{name_of_field}
+use Rattle.row_semantics.specs.Columns.{put_column}
+use Rattle.row_semantics.specs.Regulars.{Regular, is_accepted}
+use Rattle.row_semantics.specs.Scopes.{Broken, elsewhere}
+use Rattle.row_semantics.specs.Kinds.{breaks, and_then, kind_or_rule}
+use Rattle.query_semantics.specs.Shapes.{Shape, scope_over, shape_of_field, shape_of_fields, shape_of_condition, shape_of_kind, unless_empty, shape_of_command, shape_of_commands, shape_of_source}
+use Rattle.expression_analysis.specs.declared.error.AnalyzeError.{AnalyzeError}
+use Rattle.expression_analysis.specs.declared.error.AnalyzeError.TheVariants.{Broken as BrokenAt, PatternRoom, Memory}
+use Rattle.expression_analysis.specs.Answers.{accepted_but, IsRefusal}
+use Rattle.esql_analyze.specs.Contexts.{over, over_catalog}
+use Rattle.esql_analyze.proofs.Stays.{Stays, then_stays, expr_stays}
+
+-- what is refused behind something that is found refuses both
+pub refused_behind : {A B : Type 0} (first : (Regular → Bool) → Result A Broken) (next : (Regular → Bool) → A → Result B Broken) (value : A) (error : AnalyzeError) → Stays first → first is_accepted ≡ Ok value
+    → IsRefusal (λ accepts. next accepts value) error → IsRefusal (λ accepts. and_then (first accepts) (next accepts)) error
+refused_behind first next value (BrokenAt rule span) stays is refused = ap (λ r. and_then r (next is_accepted)) is ∙ refused
+refused_behind first next value (PatternRoom span) stays is refused =
+    elim (stays span) [
+      | inl as_before ↦ ap (λ r. and_then r (next (accepted_but span))) (as_before ∙ is) ∙ refused
+      | inr refuses ↦ ap (λ r. and_then r (next (accepted_but span))) refuses
+    ]
+refused_behind first next value (Memory error) stays is refused = tt
+
+-- what is refused first refuses both
+pub refused_first : {A B : Type 0} (first : (Regular → Bool) → Result A Broken) (next : (Regular → Bool) → A → Result B Broken) (error : AnalyzeError)
+    → IsRefusal first error → IsRefusal (λ accepts. and_then (first accepts) (next accepts)) error
+refused_first first next (BrokenAt rule span) refused = ap (λ r. and_then r (next is_accepted)) refused
+refused_first first next (PatternRoom span) refused = ap (λ r. and_then r (next (accepted_but span))) refused
+refused_first first next (Memory error) refused = tt
+
+-- a judgement that is another one refuses as it does
+pub refused_as : {A : Type 0} (this that : (Regular → Bool) → Result A Broken) (error : AnalyzeError) → ((accepts : Regular → Bool) → this accepts ≡ that accepts) → IsRefusal that error → IsRefusal this error
+refused_as this that (BrokenAt rule span) same refused = same is_accepted ∙ refused
+refused_as this that (PatternRoom span) same refused = same (accepted_but span) ∙ refused
+refused_as this that (Memory error) same refused = tt
+
+-- commands ------------------------------------------------------------------------------------------------------------------
+
+pub field_stays : (text : List ℕ) (field : Field) (columns : List Column) → Stays (λ accepts. shape_of_field (over text accepts) field columns)
+field_stays text field columns =
+    let next : (Regular → Bool) → Kind → Shape = λ accepts kind. Ok (put_column columns (name_of_field text field) kind) in
+    then_stays (λ accepts. kind_or_rule field.expr (scope_over (over text accepts) columns)) next (expr_stays field.expr columns elsewhere) (λ kind span. inl refl)
+
+pub fields_stay : (text : List ℕ) (fields : List Field) (columns : List Column) → Stays (λ accepts. shape_of_fields (over text accepts) fields columns)
+fields_stay text [] columns span = inl refl
+fields_stay text (field ∷ fields) columns span =
+    let next : (Regular → Bool) → List Column → Shape = λ accepts. shape_of_fields (over text accepts) fields in
+    then_stays (λ accepts. shape_of_field (over text accepts) field columns) next (field_stays text field columns) (λ more. fields_stay text fields more) span
+
+condition_stays : (text : List ℕ) (condition : Expr) (columns : List Column) → Stays (λ accepts. shape_of_condition (over text accepts) condition columns)
+condition_stays text condition columns =
+    let next : (Regular → Bool) → Kind → Shape = λ accepts found. if is_kind kind.Boolean found then Ok columns else breaks rule.NotBoolean condition.span in
+    then_stays (λ accepts. kind_or_rule condition (scope_over (over text accepts) columns)) next (expr_stays condition columns elsewhere) (λ found span. inl refl)
+
+pub kind_stays : (text : List ℕ) (command : CommandKind) (columns : List Column) → Stays (λ accepts. shape_of_kind (over text accepts) command columns)
+kind_stays text (Filter condition) columns span = condition_stays text condition columns span
+kind_stays text (Eval fields) columns span = fields_stay text fields columns span
+kind_stays text (Keep patterns) columns span = inl refl
+kind_stays text (Drop patterns) columns span = inl refl
+kind_stays text (Rename pairs) columns span = inl refl
+kind_stays text (Sort keys) columns span = inl refl
+kind_stays text (Limit count) columns span = inl refl
+kind_stays text (Expand column) columns span = inl refl
+kind_stays text (Stats fields groups) columns span = inl refl
+kind_stays text (Dissect input pattern separator) columns span = inl refl
+kind_stays text (Grok input pattern) columns span = inl refl
+kind_stays text (Enrich policy on fields) columns span = inl refl
+kind_stays text (Join table on) columns span = inl refl
+
+pub command_stays : (text : List ℕ) (command : Command) (columns : List Column) → Stays (λ accepts. shape_of_command (over text accepts) command columns)
+command_stays text command columns =
+    let next : (Regular → Bool) → List Column → Shape = λ accepts. unless_empty command.span in
+    then_stays (λ accepts. shape_of_kind (over text accepts) command.kind columns) next (kind_stays text command.kind columns) (λ more span. inl refl)
+
+-- the catalog is looked at by FROM alone ------------------------------------------------------------------------------------
+
+pub fields_over : (text : List ℕ) (catalog : Catalog) (accepts : Regular → Bool) (fields : List Field) (columns : List Column)
+    → shape_of_fields (over_catalog text catalog accepts) fields columns ≡ shape_of_fields (over text accepts) fields columns
+fields_over text catalog accepts [] columns = refl
+fields_over text catalog accepts (field ∷ fields) columns = by_first (shape_of_field (over text accepts) field columns) (fields_over text catalog accepts fields)
+  where
+    by_first : (first : Shape) → ((more : List Column) → shape_of_fields (over_catalog text catalog accepts) fields more ≡ shape_of_fields (over text accepts) fields more)
+        → and_then first (shape_of_fields (over_catalog text catalog accepts) fields) ≡ and_then first (shape_of_fields (over text accepts) fields)
+    by_first (Ok more) rest = rest more
+    by_first (Err broken) rest = refl
+
+kind_over : (text : List ℕ) (catalog : Catalog) (accepts : Regular → Bool) (command : CommandKind) (columns : List Column)
+    → shape_of_kind (over_catalog text catalog accepts) command columns ≡ shape_of_kind (over text accepts) command columns
+kind_over text catalog accepts (Filter condition) columns = refl
+kind_over text catalog accepts (Eval fields) columns = fields_over text catalog accepts fields columns
+kind_over text catalog accepts (Keep patterns) columns = refl
+kind_over text catalog accepts (Drop patterns) columns = refl
+kind_over text catalog accepts (Rename pairs) columns = refl
+kind_over text catalog accepts (Sort keys) columns = refl
+kind_over text catalog accepts (Limit count) columns = refl
+kind_over text catalog accepts (Expand column) columns = refl
+kind_over text catalog accepts (Stats fields groups) columns = refl
+kind_over text catalog accepts (Dissect input pattern separator) columns = refl
+kind_over text catalog accepts (Grok input pattern) columns = refl
+kind_over text catalog accepts (Enrich policy on fields) columns = refl
+kind_over text catalog accepts (Join table on) columns = refl
+
+pub commands_over : (text : List ℕ) (catalog : Catalog) (accepts : Regular → Bool) (commands : List Command) (columns : List Column)
+    → shape_of_commands (over_catalog text catalog accepts) commands columns ≡ shape_of_commands (over text accepts) commands columns
+commands_over text catalog accepts [] columns = refl
+commands_over text catalog accepts (command ∷ commands) columns =
+    ap (λ (first : Shape). and_then (and_then first (unless_empty command.span)) (shape_of_commands (over_catalog text catalog accepts) commands)) (kind_over text catalog accepts command.kind columns)
+    ∙ by_first (shape_of_command (over text accepts) command columns) (commands_over text catalog accepts commands)
+  where
+    by_first : (first : Shape) → ((more : List Column) → shape_of_commands (over_catalog text catalog accepts) commands more ≡ shape_of_commands (over text accepts) commands more)
+        → and_then first (shape_of_commands (over_catalog text catalog accepts) commands) ≡ and_then first (shape_of_commands (over text accepts) commands)
+    by_first (Ok more) rest = rest more
+    by_first (Err broken) rest = refl
+
+-- the shape of a source stays
+pub source_stays : (text : List ℕ) (catalog : Catalog) (source : SourceCommand) → Stays (λ accepts. shape_of_source (over_catalog text catalog accepts) source)
+source_stays text catalog (Tables node own tables) span = inl refl
+source_stays text catalog (OneRow node own fields) span =
+    elim (fields_stay text fields [] span) [
+      | inl stays ↦ inl (fields_over text catalog (accepted_but span) fields [] ∙ stays ∙ sym (fields_over text catalog is_accepted fields []))
+      | inr refuses ↦ inr (fields_over text catalog (accepted_but span) fields [] ∙ refuses)
+    ]

@@ -1,0 +1,115 @@
+-- What is written item after item, each over the columns of those before it.
+use Rattle.std.proofs.Common.{◌≡◌, ℕ, suc, ◌+◌, ◌<◌, Bool, List, [], ◌∷◌, ◌++◌, length, fold, drop, get_or, Result, Ok, Err, refl, ap, sym, subst, ◌∙◌, arith}
+use Rattle.std.specs.List.{flat_map}
+use Rattle.std.proofs.Math.Seq.{drop-cons}
+use Rattle.std.proofs.lemmas.List.{length-append}
+use Rattle.std.proofs.lemmas.Result.{err_from_is_err_and}
+use Rattle.std.specs.Result.{IsErrAnd}
+use Rattle.esql_types.specs.declared.names.Column.{Column}
+use Rattle.esql_ast.specs.declared.nodes.NodeAt.{NodeAt}
+use Rattle.esql_ast.specs.declared.query.Field.{Field}
+use Rattle.esql_ast.specs.declared.query.Command.{Command}
+use Rattle.esql_ast.specs.Nodes.{nodes_of_field, nodes_of_command}
+use Rattle.plan_semantics.specs.Plans.{columns_of}
+use Rattle.row_semantics.specs.Regulars.{Regular, is_accepted}
+use Rattle.row_semantics.specs.Kinds.{and_then}
+use Rattle.query_semantics.specs.Shapes.{Shape, shape_of_field, shape_of_fields, shape_of_command, shape_of_commands}
+use Rattle.query_semantics.specs.Written.{Writing, write_field, write_command}
+use Rattle.expression_analysis.specs.declared.error.AnalyzeError.{AnalyzeError}
+use Rattle.expression_analysis.specs.Answers.{IsRefusal}
+use Rattle.esql_analyze.specs.declared.writing.Writing.{Writing as Made}
+use Rattle.esql_analyze.specs.Contexts.{over}
+use Rattle.esql_analyze.specs.Writings.{seen, HasRoom}
+use Rattle.esql_analyze.proofs.Stays.{Stays}
+use Rattle.esql_analyze.proofs.ShapeStays.{refused_behind, refused_first, refused_as, field_stays, command_stays}
+use Rattle.esql_analyze.proofs.Rooms.{field_room, command_room}
+
+-- items that are written in turn
+pub record Turn (Item : Type 0) : Type 0 where
+  pub shape : (Regular → Bool) → Item → List Column → Shape
+  pub shapes : (Regular → Bool) → List Item → List Column → Shape
+  pub write : Writing → Item → Writing
+  pub nodes : Item → List NodeAt
+  pub none : (accepts : Regular → Bool) (columns : List Column) → shapes accepts [] columns ≡ Ok columns
+  pub more : (accepts : Regular → Bool) (item : Item) (items : List Item) (columns : List Column) → shapes accepts (item ∷ items) columns ≡ and_then (shape accepts item columns) (shapes accepts items)
+  pub stays : (item : Item) (columns : List Column) → Stays (λ accepts. shape accepts item columns)
+  pub room : (item : Item) (writing : Writing) (count : ℕ) → HasRoom writing (length (nodes item) + count) → HasRoom (write writing item) count
+
+abbrev pub fields_turn : List ℕ → Turn Field
+fields_turn text = record {
+  shape = λ accepts. shape_of_field (over text accepts);
+  shapes = λ accepts. shape_of_fields (over text accepts);
+  write = write_field text;
+  nodes = nodes_of_field;
+  none = λ accepts columns. refl;
+  more = λ accepts field fields columns. refl;
+  stays = field_stays text;
+  room = field_room text;
+}
+
+abbrev pub commands_turn : List ℕ → Turn Command
+commands_turn text = record {
+  shape = λ accepts. shape_of_command (over text accepts);
+  shapes = λ accepts. shape_of_commands (over text accepts);
+  write = write_command text;
+  nodes = nodes_of_command;
+  none = λ accepts columns. refl;
+  more = λ accepts command commands columns. refl;
+  stays = command_stays text;
+  room = command_room text;
+}
+
+-- where the rest of the items is left to be written
+pub record Along {Item : Type 0} (turn : Turn Item) (items : List Item) (start : Made) (rest : List Item) (made : Made) : Type 0 where
+  pub written : fold turn.write (seen made) rest ≡ fold turn.write (seen start) items
+  pub shape : turn.shapes is_accepted rest (columns_of made.visible) ≡ turn.shapes is_accepted items (columns_of start.visible)
+  pub refusal : (error : AnalyzeError) → IsRefusal (λ accepts. turn.shapes accepts rest (columns_of made.visible)) error → IsRefusal (λ accepts. turn.shapes accepts items (columns_of start.visible)) error
+  pub room : HasRoom (seen made) (length (flat_map turn.nodes rest))
+
+pub along_start : {Item : Type 0} (turn : Turn Item) (items : List Item) (start : Made) → HasRoom (seen start) (length (flat_map turn.nodes items)) → Along turn items start items start
+along_start turn items start room = record { written = refl; shape = refl; refusal = λ error refused. refused; room = room }
+
+item_room : {Item : Type 0} (turn : Turn Item) (item : Item) (rest : List Item) (writing : Writing) → HasRoom writing (length (flat_map turn.nodes (item ∷ rest)))
+    → HasRoom writing (length (turn.nodes item) + length (flat_map turn.nodes rest))
+item_room turn item rest writing room = subst (HasRoom writing) (length-append (turn.nodes item) (flat_map turn.nodes rest)) room
+
+pub along_room : {Item : Type 0} (turn : Turn Item) (items : List Item) (start : Made) (item : Item) (rest : List Item) (made : Made) → Along turn items start (item ∷ rest) made
+    → HasRoom (seen made) (length (turn.nodes item))
+along_room turn items start item rest made along =
+    let room = item_room turn item rest (seen made) along.room in
+    record { shown = room.shown; columns = omega (arith, room.columns); whole = omega (arith, room.whole); free = omega (arith, room.free) }
+
+pub along_more : {Item : Type 0} (turn : Turn Item) (items : List Item) (start : Made) (item : Item) (rest : List Item) (made new : Made) → Along turn items start (item ∷ rest) made
+    → (seen new ≡ turn.write (seen made) item) × (turn.shape is_accepted item (columns_of made.visible) ≡ Ok (columns_of new.visible)) → Along turn items start rest new
+along_more turn items start item rest made new along writes =
+    let columns : List Column = columns_of made.visible in
+    record {
+      written = ap (λ (writing : Writing). fold turn.write writing rest) writes.0 ∙ along.written;
+      shape = sym (turn.more is_accepted item rest columns ∙ ap (λ (found : Shape). and_then found (turn.shapes is_accepted rest)) writes.1) ∙ along.shape;
+      refusal = λ error refused. along.refusal error
+          (refused_as (λ accepts. turn.shapes accepts (item ∷ rest) columns) (λ accepts. and_then (turn.shape accepts item columns) (turn.shapes accepts rest)) error
+          (λ accepts. turn.more accepts item rest columns)
+          (refused_behind (λ accepts. turn.shape accepts item columns) (λ accepts. turn.shapes accepts rest) (columns_of new.visible) error (turn.stays item columns) writes.1 refused));
+      room = subst (λ (writing : Writing). HasRoom writing (length (flat_map turn.nodes rest))) (sym writes.0) (turn.room item (seen made) _ (item_room turn item rest (seen made) along.room));
+    }
+
+pub along_end : {Item : Type 0} (turn : Turn Item) (items : List Item) (start made : Made) → Along turn items start [] made
+    → (seen made ≡ fold turn.write (seen start) items) × (turn.shapes is_accepted items (columns_of start.visible) ≡ Ok (columns_of made.visible))
+along_end turn items start made along = (along.written, sym along.shape ∙ turn.none is_accepted (columns_of made.visible))
+
+pub along_refused : {Item : Type 0} (turn : Turn Item) (items : List Item) (start : Made) (item : Item) (rest : List Item) (made : Made) (error : AnalyzeError) → Along turn items start (item ∷ rest) made
+    → IsRefusal (λ accepts. turn.shape accepts item (columns_of made.visible)) error → IsRefusal (λ accepts. turn.shapes accepts items (columns_of start.visible)) error
+along_refused turn items start item rest made error along refused =
+    let columns : List Column = columns_of made.visible in
+    along.refusal error
+    (refused_as (λ accepts. turn.shapes accepts (item ∷ rest) columns) (λ accepts. and_then (turn.shape accepts item columns) (turn.shapes accepts rest)) error
+    (λ accepts. turn.more accepts item rest columns)
+    (refused_first (λ accepts. turn.shape accepts item columns) (λ accepts. turn.shapes accepts rest) error refused))
+
+-- the item at a place of a list, and what is behind it
+pub dropped : {A : Type 0} (i : ℕ) (xs : List A) (x : A) → i < length xs → x ≡ get_or xs i x → drop i xs ≡ x ∷ drop (i + 1) xs
+dropped i xs x less is = let next : suc i ≡ i + 1 = omega arith in drop-cons xs i x less ∙ (λ k. sym is k ∷ drop (next k) xs)
+
+-- what the exit of a `?` gives
+pub err_is : {T E : Type 0} (result : Result T E) (error : E) → IsErrAnd result (λ (other : E). other ≡ error) → result ≡ Err error
+err_is result error is = let found = err_from_is_err_and result is in found.1 ∙ ap Err found.2

@@ -1,0 +1,10 @@
+use Rattle.std.proofs.Common.{drop}
+use Rattle.expression_analysis.specs.Answers.{IsUntouched}
+use Rattle.esql_analyze.proofs.Turns.{Along, commands_turn}
+use Rattle.esql_analyze.proofs.commands.write_commands.Given as goal
+
+abbrev pub invariant-loop-command : goal.invariant-loop-command
+invariant-loop-command g l = record {
+  along : Along (commands_turn l.text) l.commands l.initial.writing (drop l.command-index l.commands) l.writing;
+  heard : IsUntouched g.M.Maker.refused g.M.Maker.last l.initial.maker l.maker;
+}

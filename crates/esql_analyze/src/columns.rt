@@ -1,0 +1,165 @@
+ghost use Rattle.std.specs.Prelude.{◌≡◌, ◌≤◌, ◌++◌, [], ◌∷◌, not, map, length, IfOk, OnOk};
+ghost use Rattle.std.specs.Str.{bytes_eq};
+ghost use Rattle.esql_ast.specs.NameRules.{at_places};
+ghost use Rattle.query_semantics.specs.Written.{put_visible, visible_names, numbered_from, scan_column};
+ghost use Rattle.esql_analyze.specs.Writings.{shown_of, joined, shown_under};
+
+use esql_ast::Renamed;
+use esql_plan::{OutColumn, ScanColumn};
+use esql_types::{ColId, Column, Kind, Seq, Text};
+use std::alloc::{AllocError, Global};
+
+/// A column that can be seen, without its name.
+#[derive(Clone, Copy)]
+pub(crate) struct Shown {
+    pub(crate) kind: Kind,
+    pub(crate) id: ColId,
+}
+
+/// Columns, with their names apart.
+#[derive(Drop)]
+pub(crate) struct Apart {
+    pub(crate) names: Seq<Text>,
+    pub(crate) shown: Seq<Shown>,
+}
+
+fn is_other(column: &OutColumn, name: &Text) -> bool
+    ensures { result ≡ not (bytes_eq column.now.name name.now) }
+{
+    column.name.as_str() != name.as_str()
+}
+
+/// The columns that can be seen with one in the place of that of its name, at the end.
+pub(crate) fn put_visible(
+    visible: Seq<OutColumn>,
+    name: Text,
+    kind: Kind,
+    number: u32,
+) -> Result<Seq<OutColumn>, AllocError>
+    ensures { IfOk result (λ new. new ≡ put_visible visible name kind number) }
+{
+    let mut kept = visible.into_vec();
+    kept.retain(|column| is_other(column, &name));
+    let mut visible = Seq::from_vec(kept);
+    visible.push(OutColumn {
+        name,
+        kind,
+        id: ColId(number),
+    })?;
+    Ok(visible)
+}
+
+/// Columns under numbers in turn.
+pub(crate) fn numbered(alloc: Global, columns: Seq<Column>) -> Result<Seq<OutColumn>, AllocError>
+    requires { length columns ≤ 4294967295 }
+    ensures { IfOk result (λ visible. visible ≡ numbered_from 0 columns) }
+{
+    let mut visible = Seq::new(alloc);
+    let mut number = 0;
+    for column in columns.into_vec() {
+        let Column { name, kind } = column;
+        let id = ColId(number);
+        visible.push(OutColumn { name, kind, id })?;
+        number += 1;
+    }
+    Ok(visible)
+}
+
+/// The columns that are read of tables.
+pub(crate) fn scan_columns(
+    alloc: Global,
+    visible: &[OutColumn],
+) -> Result<Seq<ScanColumn>, AllocError>
+    ensures { IfOk result (λ columns. columns ≡ map scan_column visible.now) }
+{
+    let mut columns = Seq::new(alloc);
+    for column in visible {
+        columns.push(ScanColumn {
+            name: column.name.copy()?,
+            kind: column.kind,
+            to: column.id,
+        })?;
+    }
+    Ok(columns)
+}
+
+/// The columns, with their names apart.
+pub(crate) fn names_apart(alloc: Global, visible: Seq<OutColumn>) -> Result<Apart, AllocError>
+    ensures names { IfOk result (λ apart. apart.names ≡ visible_names visible) }
+    ensures shown { IfOk result (λ apart. apart.shown ≡ map shown_of visible) }
+{
+    let mut names = Seq::new(alloc);
+    let mut shown = Seq::new(alloc);
+    for column in visible.into_vec() {
+        let OutColumn { name, kind, id } = column;
+        names.push(name)?;
+        shown.push(Shown { kind, id })?;
+    }
+    Ok(Apart { names, shown })
+}
+
+#[tactic(auto, using(crate::proofs::Parted::joined_get))]
+fn push_at(visible: &mut Seq<OutColumn>, apart: &Apart, place: u32) -> Result<(), AllocError>
+    ensures { OnOk result (visible.new ≡ visible.old ++ at_places (place ∷ []) (joined apart.now.names apart.now.shown)) }
+{
+    match apart.names.at(place as usize) {
+        None => Ok(()),
+        Some(name) => match apart.shown.at(place as usize) {
+            None => Ok(()),
+            Some(shown) => visible.push(OutColumn {
+                name: name.copy()?,
+                kind: shown.kind,
+                id: shown.id,
+            }),
+        },
+    }
+}
+
+/// The columns at places.
+#[tactic(auto, using(crate::proofs::Parted::at_taken))]
+pub(crate) fn columns_at(
+    alloc: Global,
+    apart: &Apart,
+    places: &[u32],
+) -> Result<Seq<OutColumn>, AllocError>
+    ensures { IfOk result (λ visible. visible ≡ at_places places.now (joined apart.now.names apart.now.shown)) }
+{
+    let mut visible = Seq::new(alloc);
+    for place in places {
+        push_at(&mut visible, apart, *place)?;
+    }
+    Ok(visible)
+}
+
+fn push_renamed(
+    visible: &mut Seq<OutColumn>,
+    shown: &Seq<Shown>,
+    renamed: Renamed,
+) -> Result<(), AllocError>
+    ensures { OnOk result (visible.new ≡ visible.old ++ shown_under (renamed ∷ []) shown.now) }
+{
+    let Renamed { name, place } = renamed;
+    if let Some(shown) = shown.at(place as usize) {
+        visible.push(OutColumn {
+            name,
+            kind: shown.kind,
+            id: shown.id,
+        })?;
+    }
+    Ok(())
+}
+
+/// The columns at places, under new names.
+pub(crate) fn columns_renamed(
+    alloc: Global,
+    shown: &Seq<Shown>,
+    renamed: Seq<Renamed>,
+) -> Result<Seq<OutColumn>, AllocError>
+    ensures { IfOk result (λ visible. visible ≡ shown_under renamed shown.now) }
+{
+    let mut visible = Seq::new(alloc);
+    for one in renamed.into_vec() {
+        push_renamed(&mut visible, shown, one)?;
+    }
+    Ok(visible)
+}

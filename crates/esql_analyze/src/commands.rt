@@ -1,0 +1,87 @@
+ghost use Rattle.std.specs.Prelude.{◌≡◌, true, All, fold, length};
+ghost use Rattle.std.specs.List.{flat_map};
+ghost use Rattle.esql_ast.specs.Fits.{KindFits};
+ghost use Rattle.esql_ast.specs.Nodes.{nodes_of_kind, nodes_of_command};
+ghost use Rattle.plan_semantics.specs.Plans.{columns_of};
+ghost use Rattle.query_semantics.specs.Built.{is_built_kind};
+ghost use Rattle.query_semantics.specs.Shapes.{shape_of_kind, shape_of_command, shape_of_commands};
+ghost use Rattle.query_semantics.specs.Written.{write_kind, write_command};
+ghost use Rattle.esql_analyze.specs.Contexts.{over};
+ghost use Rattle.esql_analyze.specs.Writings.{seen, HasRoom};
+ghost use Rattle.esql_analyze.specs.Answers.{Writes, Hears};
+ghost use Rattle.esql_analyze.specs.Regulars.{regulars_of_kind, regulars_of_command};
+
+use crate::fields::{write_condition, write_fields};
+use crate::names::{write_drop, write_keep, write_rename};
+use crate::writing::{Writing, unless_empty, write_limit};
+use esql_ast::{Command, CommandKind};
+use esql_types::Maker;
+use expression_analysis::AnalyzeError;
+use std::alloc::Global;
+
+fn write_kind<M: Maker>(
+    alloc: Global,
+    text: &str,
+    writing: Writing,
+    command: &Command,
+    maker: &mut M,
+) -> Result<Writing, AnalyzeError>
+    requires fits { KindFits text.now command.now.kind }
+    requires built { is_built_kind command.now.kind ≡ true }
+    requires room { HasRoom (seen writing) (length (nodes_of_kind command.now.kind)) }
+    ensures writes { Writes (λ accepts. shape_of_kind (over text.now accepts) command.now.kind (columns_of writing.visible)) (write_kind text.now command.now.node command.now.kind (seen writing)) result }
+    ensures hears { Hears M.refused M.last (regulars_of_kind command.now.kind) maker.old maker.new result }
+{
+    match &command.kind {
+        CommandKind::Filter { condition } => {
+            write_condition(alloc, writing, command.node, condition, maker)
+        }
+        CommandKind::Eval { fields } => {
+            write_fields(alloc, text, writing, fields.as_slice(), maker)
+        }
+        CommandKind::Keep { patterns } => write_keep(alloc, writing, patterns),
+        CommandKind::Drop { patterns } => write_drop(alloc, writing, patterns),
+        CommandKind::Rename { pairs } => write_rename(alloc, writing, pairs),
+        CommandKind::Limit { count } => Ok(write_limit(*count, writing)?),
+        _ => unreachable!(),
+    }
+}
+
+/// The steps of a command, which has to leave a column.
+fn write_command<M: Maker>(
+    alloc: Global,
+    text: &str,
+    writing: Writing,
+    command: &Command,
+    maker: &mut M,
+) -> Result<Writing, AnalyzeError>
+    requires fits { KindFits text.now command.now.kind }
+    requires built { is_built_kind command.now.kind ≡ true }
+    requires room { HasRoom (seen writing) (length (nodes_of_command command.now)) }
+    ensures writes { Writes (λ accepts. shape_of_command (over text.now accepts) command.now (columns_of writing.visible)) (write_command text.now (seen writing) command.now) result }
+    ensures hears { Hears M.refused M.last (regulars_of_command command.now) maker.old maker.new result }
+{
+    let writing = write_kind(alloc, text, writing, command, maker)?;
+    unless_empty(command.span, writing)
+}
+
+/// The steps of commands in turn.
+pub(crate) fn write_commands<M: Maker>(
+    alloc: Global,
+    text: &str,
+    writing: Writing,
+    commands: &[Command],
+    maker: &mut M,
+) -> Result<Writing, AnalyzeError>
+    requires fits { All (λ command. KindFits text.now command.kind) commands.now }
+    requires built { All (λ command. is_built_kind command.kind ≡ true) commands.now }
+    requires room { HasRoom (seen writing) (length (flat_map nodes_of_command commands.now)) }
+    ensures writes { Writes (λ accepts. shape_of_commands (over text.now accepts) commands.now (columns_of writing.visible)) (fold (write_command text.now) (seen writing) commands.now) result }
+    ensures hears { Hears M.refused M.last (flat_map regulars_of_command commands.now) maker.old maker.new result }
+{
+    let mut writing = writing;
+    for command in commands {
+        writing = write_command(alloc, text, writing, command, maker)?;
+    }
+    Ok(writing)
+}
