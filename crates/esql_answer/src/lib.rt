@@ -7,7 +7,6 @@ mod answered;
 mod answering;
 mod prepared;
 mod query;
-mod stub;
 #[cfg(test)]
 mod tests;
 

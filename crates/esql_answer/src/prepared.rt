@@ -7,11 +7,10 @@ ghost use Rattle.plan_semantics.specs.Tables.{TableHeld};
 ghost use Rattle.query_semantics.specs.Built.{IsBuiltQuery};
 ghost use Rattle.query_semantics.specs.Catalogs.{IsCatalog};
 ghost use Rattle.query_semantics.specs.Shapes.{shape_in, shape_of};
-ghost use Rattle.expression_analysis.specs.Answers.{IsRefusal, IsTold, HadRoom};
+ghost use Rattle.expression_analysis.specs.Answers.{IsRefusal, IsTold, IsQuiet};
 ghost use Rattle.esql_analyze.specs.Regulars.{regulars_of_query};
 ghost use Rattle.esql_answer.specs.Prepared.{prepared_of, MeansQuery};
 
-use crate::stub::plans_are_well_formed;
 use esql_analyze::{AnalyzeError, Analyzed, analyze};
 use esql_ast::Query;
 use esql_plan::{Catalog, Plan};
@@ -19,7 +18,7 @@ use esql_types::Maker;
 use std::alloc::Global;
 use std::marker::Model;
 use text_match::Patterns;
-use written_laws::{plans_are_orderly, plans_mean_queries};
+use written_laws::{plans_are_orderly, plans_are_well_formed, plans_mean_queries};
 
 /// A query that can be answered over the tables of its catalog.
 ///
@@ -32,10 +31,14 @@ pub struct Prepared {
 }
 
 impl Model for Prepared {
-    ghost use Rattle.esql_answer.specs.Prepared.{PreparedSeen};
+    ghost use Rattle.std.specs.Coded.{codes};
+    ghost use Rattle.esql_plan.specs.contracts.typed.TypedForm as typed_form;
     ghost use Rattle.plan_semantics.specs.WellFormed.{IsWellFormed};
+    ghost use Rattle.esql_answer.specs.Prepared.{PreparedSeen};
 
     ghost Value = { PreparedSeen };
+
+    ghost coded = { Prim.hlevel (codes, typed_form.the_row.coded) };
 
     ghost view = { λ prepared. record { catalog = prepared.catalog; plan = prepared.plan; whole = prepared.patterns.whole; free = prepared.patterns.free } };
 
@@ -67,7 +70,7 @@ pub fn prepare<M: Maker>(
     ensures refusal { IfErr result (IsRefusal (λ accepts. shape_in (record { text = text.now; catalog = catalog; accepts = accepts }) query.now)) }
     ensures room { IfErr result (IsTold M.refused M.last (regulars_of_query query.now) maker.old maker.new) }
     ensures count { M.refused maker.old ≤ M.refused maker.new }
-    ensures quiet { HadRoom result → (M.refused maker.new ≡ M.refused maker.old) × (M.last maker.new ≡ M.last maker.old) }
+    ensures quiet { IsQuiet M.refused M.last maker.old maker.new result }
 {
     plans_are_well_formed();
     plans_mean_queries();
