@@ -1,9 +1,0 @@
-use Rattle.std.proofs.Common.{◌≡◌, List, length, All, sym, subst}
-use Rattle.esql_types.specs.declared.value.Value.{Value}
-use Rattle.esql_run.proofs.RowCells.{cells_fit}
-use Rattle.esql_run.proofs.answer.show.Goals as goal
-
-pub txt-requires : goal.txt-requires
-txt-requires c =
-    let columns = c.args.ran.table.columns in
-    subst (λ rows. All (λ (cells : List (List Value)). length cells ≡ length columns) rows) (sym c.in_ok-rows.ensures) (cells_fit c.args.ran.table c.requires.shaped)
