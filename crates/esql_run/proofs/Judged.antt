@@ -4,7 +4,6 @@ use Rattle.esql_io.specs.Files.{Held}
 use Rattle.esql_io.specs.Calls.{NoneFailed}
 use Rattle.esql_types.specs.Spans.{SpanFits}
 use Rattle.esql_types.specs.declared.places.Span.{Span}
-use Rattle.esql_types.specs.declared.names.Column.{Column}
 use Rattle.esql_ast.specs.declared.query.Query.{Query}
 use Rattle.esql_ast.specs.Fits.{QueryFits}
 use Rattle.esql_plan.specs.declared.catalog.Catalog.{Catalog}
@@ -15,9 +14,10 @@ use Rattle.row_semantics.specs.Regulars.{Regular, is_accepted}
 use Rattle.row_semantics.specs.Scopes.{Broken as BrokenRule}
 use Rattle.query_semantics.specs.Places.{BrokenFits}
 use Rattle.query_semantics.specs.Shapes.{Context, Shape, shape_of, shape_in}
-use Rattle.expression_analysis.specs.declared.AnalyzeError.{AnalyzeError}
-use Rattle.expression_analysis.specs.declared.AnalyzeError.TheVariants.{Broken, PatternRoom as StoppedByRoom, Memory as LackedMemory}
-use Rattle.expression_analysis.specs.Answers.{accepted_but, IsRefusal, IsTold, HadRoom}
+use Rattle.query_semantics.proofs.ShapePlaces.{shape_fits}
+use Rattle.expression_analysis.specs.declared.error.AnalyzeError.{AnalyzeError}
+use Rattle.expression_analysis.specs.declared.error.AnalyzeError.TheVariants.{Broken, PatternRoom as StoppedByRoom, Memory as LackedMemory}
+use Rattle.expression_analysis.specs.Answers.{accepted_but, IsRefusal, IsTold, IsQuietAt}
 use Rattle.esql_analyze.specs.Regulars.{regulars_of_query}
 use Rattle.table_files.specs.declared.stop.TableSource.{TableSource}
 use Rattle.table_files.specs.Catalog.{Gathers}
@@ -36,19 +36,16 @@ use Rattle.esql_run.specs.Tables.{table_names, refusal_of, IsTablesOutcome, brok
 abbrev judged : List ℕ → Catalog → Query → (Regular → Bool) → Shape
 judged text catalog query accepts = shape_in (record { text = text; catalog = catalog; accepts = accepts }) query
 
-abbrev HavePlaces : Type 0
-HavePlaces = (context : Context) (query : Query) → QueryFits context.text query → BrokenFits context.text (shape_in context query)
-
-placed : (places : HavePlaces) (text : List ℕ) (catalog : Catalog) (query : Query) (accepts : Regular → Bool) (rule : NameRule) (span : Span) → QueryFits text query
+placed : (text : List ℕ) (catalog : Catalog) (query : Query) (accepts : Regular → Bool) (rule : NameRule) (span : Span) → QueryFits text query
     → judged text catalog query accepts ≡ Err (record { rule = rule; span = span }) → SpanFits text span
-placed places text catalog query accepts rule span fits is =
-    subst (λ (shape : Shape). BrokenFits text shape) is (places (record { text = text; catalog = catalog; accepts = accepts }) query fits)
+placed text catalog query accepts rule span fits is =
+    subst (λ (shape : Shape). BrokenFits text shape) is (shape_fits (record { text = text; catalog = catalog; accepts = accepts }) query fits)
 
 -- the place that an error names is a part of the text
-pub error_fits : (places : HavePlaces) (text : List ℕ) (catalog : Catalog) (query : Query) (error : AnalyzeError) → QueryFits text query → IsRefusal (judged text catalog query) error → ErrorFits text error
-error_fits places text catalog query (Broken rule span) fits is = placed places text catalog query is_accepted rule span fits is
-error_fits places text catalog query (StoppedByRoom span) fits is = placed places text catalog query (accepted_but span) BadRegex span fits is
-error_fits places text catalog query (LackedMemory error) fits is = tt
+pub error_fits : (text : List ℕ) (catalog : Catalog) (query : Query) (error : AnalyzeError) → QueryFits text query → IsRefusal (judged text catalog query) error → ErrorFits text error
+error_fits text catalog query (Broken rule span) fits is = placed text catalog query is_accepted rule span fits is
+error_fits text catalog query (StoppedByRoom span) fits is = placed text catalog query (accepted_but span) BadRegex span fits is
+error_fits text catalog query (LackedMemory error) fits is = tt
 
 -- a broken rule is what the query is refused for
 pub broken_told : (text : List ℕ) (held : Held) (query : Query) (sources : List TableSource) (catalog : Catalog) (error : AnalyzeError) (result : Result Rendered Unanswered) → catalog ≡ catalog_of sources
@@ -72,15 +69,12 @@ called_judged P text (LackedMemory error) (Err (ReadFault file)) old new none is
 called_judged P text error (Err (PatternRoom line)) old new none is = none
 called_judged P text error (Err (Memory lack)) old new none is = tt
 
-abbrev failed_by : AnalyzeError → Result (List Column) AnalyzeError
-failed_by error = Err error
-
 -- the line for a pattern that is too large says what the maker told
 pub made_judged : {Maker : Type 0} (count : Maker → ℕ) (last : Maker → List ℕ) (text : List ℕ) (held : Held) (query : Query) (sources : List TableSource) (catalog : Catalog) (error : AnalyzeError) (result : Result Rendered Unanswered) (old new : Maker)
     → catalog ≡ catalog_of sources → unbuilt_of query ≡ None → Over held (λ bytes_of. Gathers (Some bytes_of) 0 (table_names query) (Ok sources)) → IsRefusal (judged text catalog query) error
-    → IsTold count last (regulars_of_query query) old new error → (HadRoom (failed_by error) → (count new ≡ count old) × (last new ≡ last old)) → IsUnprepared text error result
+    → IsTold count last (regulars_of_query query) old new error → IsQuietAt count last old new error → IsUnprepared text error result
     → MadeToAnswer count (IsRoomOf count last text held query) result old new
-made_judged count last text held query sources catalog (Broken rule span) (Ok answer) old new are built somewhere why told quiet is = (quiet tt).0
+made_judged count last text held query sources catalog (Broken rule span) (Ok answer) old new are built somewhere why told quiet is = quiet.counted
 made_judged count last text held query sources catalog (StoppedByRoom span) (Ok answer) old new are built somewhere why told quiet is = absurd is
 made_judged count last text held query sources catalog (LackedMemory error) (Ok answer) old new are built somewhere why told quiet is = absurd is
 made_judged count last text held query sources catalog (Broken rule span) (Err (ReadFault file)) old new are built somewhere why told quiet is = absurd is

@@ -1,12 +1,12 @@
 mod Catalogs
+mod EachBuilt
 mod Ends
 mod Judged
-mod Kinds
 mod Meant
 mod OneOutcome
 mod OneTables
 mod Somewhere
 mod Stops
+mod TableKinds
 mod TableNames
-mod Unbuilt
 mod Words

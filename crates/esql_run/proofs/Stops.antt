@@ -1,5 +1,5 @@
 -- What is answered where tables halt.
-use Rattle.std.proofs.Common.{◌≡◌, ℕ, ◌<◌, List, map, length, All, Result, Ok, Err, IfOk, IfErr, Some, refl, sym, subst}
+use Rattle.std.proofs.Common.{◌≡◌, ℕ, ◌<◌, List, map, length, All, Result, Ok, Err, IfOk, IfErr, Some, refl, sym, subst, ap, ◌∙◌}
 use Rattle.std.proofs.lemmas.List.{length-map, get_or-map}
 use Rattle.std.proofs.lemmas.List.Elements.{All-contains}
 use Rattle.esql_io.specs.Files.{Held}
@@ -10,6 +10,8 @@ use Rattle.esql_types.specs.declared.names.Column.{Column}
 use Rattle.esql_ast.specs.declared.query.NameAt.{NameAt}
 use Rattle.esql_ast.specs.declared.query.Query.{Query}
 use Rattle.esql_ast.specs.Fits.{NameFits, QueryFits}
+use Rattle.esql_plan.specs.declared.catalog.Catalog.{Catalog}
+use Rattle.plan_rows.specs.Held.{tables_held}
 use Rattle.query_semantics.specs.Shapes.{shape_of}
 use Rattle.table_files.specs.declared.stop.Stop.{Stop}
 use Rattle.table_files.specs.declared.stop.Stop.TheVariants.{UnknownTable, BadData, ReadFault as StoppedByFault, Memory as StoppedByMemory}
@@ -24,7 +26,7 @@ use Rattle.esql_run.specs.declared.rendered.Unanswered.TheVariants.{ReadFault, P
 use Rattle.esql_run.specs.Bytes.{Outcome}
 use Rattle.esql_run.specs.Made.{outcome_made}
 use Rattle.esql_run.specs.Stopped.{CalledToAnswer, MadeToAnswer, IsStopped, StopFits, IsNoRoom}
-use Rattle.esql_run.specs.Tables.{table_names, halted, IsTablesOutcome, not_found, not_loaded, AnswersTables, AskedByTables, to_find, to_load}
+use Rattle.esql_run.specs.Tables.{table_names, halted, meant, IsTablesOutcome, not_found, not_loaded, loaded, AnswersTables, AskedByTables, to_find, to_load}
 use Rattle.esql_run.proofs.Somewhere.{settled}
 use Rattle.esql_run.proofs.TableNames.{names_fit}
 
@@ -74,6 +76,14 @@ pub load_halted : (text : List ℕ) (held : Held) (query : Query) (sources : Lis
 load_halted text held query sources columns stop (Ok answer) gathers shape told is =
     stop_answers text stop answer (IsTablesOutcome held text query) is (not_loaded_by held text query sources columns stop gathers shape told)
 load_halted text held query sources columns stop (Err error) gathers shape told is = tt
+
+pub all_loaded : (text : List ℕ) (held : Held) (query : Query) (catalog : Catalog) (sources : List TableSource) (columns : List Column) (tables slice : List Rows) (outcome : Outcome) → Gathers held 0 (table_names query) (Ok sources)
+    → shape_of text (catalog_of sources) query ≡ Ok columns → Loads held sources (Ok tables) → catalog ≡ catalog_of sources → slice ≡ tables → outcome ≡ meant text query columns (tables_held catalog slice)
+    → IsTablesOutcome held text query outcome
+all_loaded text held query catalog sources columns tables slice outcome gathers shape loads are same is =
+    subst (IsTablesOutcome held text query)
+    (sym (is ∙ ap (λ (c : Catalog). meant text query columns (tables_held c slice)) are ∙ ap (λ (ts : List Rows). meant text query columns (tables_held (catalog_of sources) ts)) same))
+    (loaded sources columns tables gathers shape loads)
 
 -- ---- the calls
 

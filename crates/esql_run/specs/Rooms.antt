@@ -9,7 +9,7 @@ use Rattle.table_files.specs.Catalog.{Gathers}
 use Rattle.table_files.specs.Catalogs.{catalog_of}
 use Rattle.row_semantics.specs.declared.rule.NameRule.TheVariants.{BadRegex}
 use Rattle.query_semantics.specs.Shapes.{shape_in}
-use Rattle.expression_analysis.specs.declared.AnalyzeError.TheVariants.{PatternRoom}
+use Rattle.expression_analysis.specs.declared.error.AnalyzeError.TheVariants.{PatternRoom}
 use Rattle.expression_analysis.specs.Answers.{accepted_but, IsTold}
 use Rattle.esql_analyze.specs.Regulars.{regulars_of_query}
 use Rattle.esql_answer.specs.Queries.{IsQuery}

@@ -6,8 +6,8 @@ use Rattle.esql_types.specs.Spans.{SpanFits}
 use Rattle.table_files.specs.declared.stop.Stop.{Stop}
 use Rattle.table_files.specs.declared.stop.Stop.TheVariants.{UnknownTable, BadData, ReadFault as StoppedByFault, Memory as StoppedByMemory}
 use Rattle.table_files.specs.Catalog.{unknown, bad}
-use Rattle.expression_analysis.specs.declared.AnalyzeError.{AnalyzeError}
-use Rattle.expression_analysis.specs.declared.AnalyzeError.TheVariants.{Broken, PatternRoom as StoppedByRoom, Memory as LackedMemory}
+use Rattle.expression_analysis.specs.declared.error.AnalyzeError.{AnalyzeError}
+use Rattle.expression_analysis.specs.declared.error.AnalyzeError.TheVariants.{Broken, PatternRoom as StoppedByRoom, Memory as LackedMemory}
 use Rattle.answer_text.specs.declared.refusals.Refusal.TheVariants as refusal
 use Rattle.answer_text.specs.Refusals.{refusal_line}
 use Rattle.esql_run.specs.declared.rendered.Rendered.{Rendered}
