@@ -1,5 +1,5 @@
 -- What is answered where a rule is broken, or a pattern is too large.
-use Rattle.std.proofs.Common.{◌≡◌, ℕ, Bool, List, Some, None, Result, Ok, Err, IfOk, refl, sym, subst, ap, ◌∙◌}
+use Rattle.std.proofs.Common.{◌≡◌, ℕ, Bool, List, Some, None, Result, Ok, Err, IfOk, sym, subst}
 use Rattle.esql_io.specs.Files.{Held}
 use Rattle.esql_io.specs.Calls.{NoneFailed}
 use Rattle.esql_types.specs.Spans.{SpanFits}
@@ -13,7 +13,7 @@ use Rattle.row_semantics.specs.declared.rule.NameRule.TheVariants.{BadRegex}
 use Rattle.row_semantics.specs.Regulars.{Regular, is_accepted}
 use Rattle.row_semantics.specs.Scopes.{Broken as BrokenRule}
 use Rattle.query_semantics.specs.Places.{BrokenFits}
-use Rattle.query_semantics.specs.Shapes.{Context, Shape, shape_of, shape_in}
+use Rattle.query_semantics.specs.Shapes.{Shape, shape_of, shape_in}
 use Rattle.query_semantics.proofs.ShapePlaces.{shape_fits}
 use Rattle.expression_analysis.specs.declared.error.AnalyzeError.{AnalyzeError}
 use Rattle.expression_analysis.specs.declared.error.AnalyzeError.TheVariants.{Broken, PatternRoom as StoppedByRoom, Memory as LackedMemory}
@@ -26,11 +26,10 @@ use Rattle.esql_run.specs.declared.rendered.Rendered.{Rendered}
 use Rattle.esql_run.specs.declared.rendered.Unanswered.{Unanswered}
 use Rattle.esql_run.specs.declared.rendered.Unanswered.TheVariants.{ReadFault, PatternRoom, Memory}
 use Rattle.esql_run.specs.Built.{unbuilt_of}
-use Rattle.esql_run.specs.Bytes.{Outcome, refused}
 use Rattle.esql_run.specs.Made.{outcome_made}
 use Rattle.esql_run.specs.Rooms.{IsRoomOf}
 use Rattle.esql_run.specs.Stopped.{CalledToAnswer, MadeToAnswer, IsUnprepared, ErrorFits}
-use Rattle.esql_run.specs.Tables.{table_names, refusal_of, IsTablesOutcome, broken}
+use Rattle.esql_run.specs.Tables.{table_names, IsTablesOutcome, broken}
 
 -- the query is judged by its tables, and by which regular expressions are accepted
 abbrev judged : List ℕ → Catalog → Query → (Regular → Bool) → Shape

@@ -1,4 +1,5 @@
 mod Catalogs
+mod CommandSpans
 mod EachBuilt
 mod Ends
 mod Judged

@@ -3,9 +3,9 @@ use Rattle.std.proofs.Common.{◌≡◌, ℕ, List, Some, None, Result, Ok, Err,
 use Rattle.esql_io.specs.Files.{Held}
 use Rattle.esql_ast.specs.declared.query.NameAt.{NameAt}
 use Rattle.esql_ast.specs.declared.query.Query.{Query}
-use Rattle.ndjson_load.specs.Over.{Over, BytesOf}
+use Rattle.ndjson_load.specs.Over.{Over}
 use Rattle.table_files.specs.declared.stop.TableSource.{TableSource}
-use Rattle.table_files.specs.Catalog.{Halt, unknown, Rows, Gathers}
+use Rattle.table_files.specs.Catalog.{Halt, unknown, Gathers}
 use Rattle.table_files.specs.Laws.{HasOneContent, IsGoneSince}
 use Rattle.table_files.proofs.SomeContents.{some_gathering, some_halt, some_loading}
 use Rattle.esql_run.specs.declared.rendered.Rendered.{Rendered}

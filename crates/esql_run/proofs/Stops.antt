@@ -1,5 +1,5 @@
 -- What is answered where tables halt.
-use Rattle.std.proofs.Common.{◌≡◌, ℕ, ◌<◌, List, map, length, All, Result, Ok, Err, IfOk, IfErr, Some, refl, sym, subst, ap, ◌∙◌}
+use Rattle.std.proofs.Common.{◌≡◌, ℕ, ◌<◌, List, map, length, All, Result, Ok, Err, IfOk, IfErr, Some, sym, subst, ap, ◌∙◌}
 use Rattle.std.proofs.lemmas.List.{length-map, get_or-map}
 use Rattle.std.proofs.lemmas.List.Elements.{All-contains}
 use Rattle.esql_io.specs.Files.{Held}

@@ -1,6 +1,5 @@
 -- The rows that were loaded are those of tables of the catalog.
-use Rattle.std.proofs.Common.{◌≡◌, Bool, true, false, List, [], ◌∷◌, map, All, refl, sym, subst, ap}
-use Rattle.std.specs.Prelude.{list_all}
+use Rattle.std.proofs.Common.{◌≡◌, true, List, [], ◌∷◌, All, refl, sym, subst, ap}
 use Rattle.std.specs.List.{AllZip}
 use Rattle.std.proofs.lemmas.List.Elements.{All-nil, All-cons, All-head, All-tail, All-weaker}
 use Rattle.esql_types.specs.declared.value.Kind.{Kind}
@@ -12,11 +11,11 @@ use Rattle.esql_types.specs.Values.{kind_of_value}
 use Rattle.esql_plan.specs.declared.catalog.Catalog.{Catalog}
 use Rattle.esql_plan.specs.Signatures.{same_kind}
 use Rattle.esql_plan.specs.Fits.{has_kind}
-use Rattle.plan_semantics.specs.Tables.{TableHeld, catalog_tables}
+use Rattle.plan_semantics.specs.Tables.{catalog_tables}
 use Rattle.plan_semantics.specs.WellFormed.{IsTable, AreTables}
 use Rattle.plan_rows.specs.Held.{tables_held}
 use Rattle.ndjson_load.specs.declared.column.MappedColumn.{MappedColumn}
-use Rattle.ndjson_load.specs.Shapes.{is_of_kind, IsLoadable, IsCellOf, IsRowOf}
+use Rattle.ndjson_load.specs.Shapes.{is_of_kind, IsLoadable, IsRowOf}
 use Rattle.table_files.specs.declared.stop.TableSource.{TableSource}
 use Rattle.table_files.specs.Catalog.{Rows}
 use Rattle.table_files.specs.Catalogs.{catalog_of, columns_of, shape_of}

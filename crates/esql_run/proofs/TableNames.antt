@@ -4,7 +4,6 @@ use Rattle.std.specs.Prelude.{filter, not, cond}
 use Rattle.std.specs.List.{AllByRecursion, IsDistinct}
 use Rattle.std.specs.Str.{bytes_eq}
 use Rattle.std.proofs.lemmas.List.Elements.{All-nil, All-cons, All-head, All-tail}
-use Rattle.esql_ast.specs.declared.query.NameAt.{NameAt}
 use Rattle.esql_ast.specs.declared.query.Query.{Query}
 use Rattle.esql_ast.specs.declared.uses.SourceUse.{SourceUse}
 use Rattle.esql_ast.specs.Fits.{NameFits, QueryFits}

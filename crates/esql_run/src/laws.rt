@@ -6,6 +6,8 @@ ghost use Rattle.esql_run.specs.Built.{unbuilt_of};
 ghost use Rattle.esql_run.specs.Bytes.{Outcome};
 ghost use Rattle.esql_run.specs.Outcome.{IsOutcome, ReadsKnown};
 
+use esql_lex::{not_both, one_fault, one_list};
+use esql_parse::{no_refusal, one_query, one_refusal};
 use table_files::{one_gathering, one_loading};
 
 /// A law: each command of a query is built, where there is no first one that is not.
@@ -19,6 +21,12 @@ pub fn one_outcome()
     ensures { (words : List (List ℕ)) (held : Held) (outcome other : Outcome) → ReadsKnown words held
         → IsOutcome words held outcome → IsOutcome words held other → outcome ≡ other }
 {
+    one_list();
+    one_fault();
+    not_both();
+    one_query();
+    one_refusal();
+    no_refusal();
     one_gathering();
     one_loading();
 }

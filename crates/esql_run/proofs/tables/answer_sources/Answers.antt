@@ -1,4 +1,4 @@
-use Rattle.std.proofs.Common.{refl, sym, subst, ap, ◌≡◌, Ok, ◌∙◌}
+use Rattle.std.proofs.Common.{sym, subst, ap, ◌≡◌, Ok, ◌∙◌}
 use Rattle.esql_io.proofs.Calls.{none_yet}
 use Rattle.esql_plan.specs.declared.catalog.Catalog.{Catalog}
 use Rattle.plan_semantics.specs.Plans.{columns_of}
@@ -40,15 +40,15 @@ returns-in-Ok-clause-made g c =
 pub unprepared-requires : goal.unprepared-requires
 unprepared-requires g c = error_fits c.args.text.now c.in_ok-catalog.catalog c.args.query.now c.in-Err.error c.requires.fits c.in-Err.ensures.refusal
 
-pub returns-clause-told : goal.returns-clause-told
-returns-clause-told g c =
+pub returns-in-Err-clause-told : goal.returns-in-Err-clause-told
+returns-in-Err-clause-told g c =
     broken_told c.args.text.now (g.F.Files.holds c.args.files.now) c.args.query.now c.args.sources.now c.in_ok-catalog.catalog c.in-Err.error c.unprepared.result c.in_ok-catalog.ensures c.requires.gathered c.in-Err.ensures.refusal c.unprepared.ensures.unprepared
 
-pub returns-clause-called : goal.returns-clause-called
-returns-clause-called g c =
+pub returns-in-Err-clause-called : goal.returns-in-Err-clause-called
+returns-in-Err-clause-called g c =
     called_judged (AskedByTables (g.F.Files.holds c.args.files.now) c.args.text.now c.args.query.now) c.args.text.now c.in-Err.error c.unprepared.result _ _ (none_yet _ _ _ _) c.unprepared.ensures.unprepared
 
-pub returns-clause-made : goal.returns-clause-made
-returns-clause-made g c =
+pub returns-in-Err-clause-made : goal.returns-in-Err-clause-made
+returns-in-Err-clause-made g c =
     made_judged g.M.Maker.refused g.M.Maker.last c.args.text.now (g.F.Files.holds c.args.files.now) c.args.query.now c.args.sources.now c.in_ok-catalog.catalog c.in-Err.error c.unprepared.result _ _ c.in_ok-catalog.ensures c.requires.built
     c.requires.somewhere c.in-Err.ensures.refusal c.in-Err.ensures.room c.in-Err.ensures.quiet c.unprepared.ensures.unprepared

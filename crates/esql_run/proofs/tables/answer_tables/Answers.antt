@@ -1,4 +1,4 @@
-use Rattle.std.proofs.Common.{refl, sym, subst, All, List, ◌∙◌}
+use Rattle.std.proofs.Common.{refl, sym, subst, All, ◌∙◌}
 use Rattle.esql_io.proofs.Calls.{none_yet}
 use Rattle.ndjson_load.specs.Shapes.{IsLoadable}
 use Rattle.table_files.specs.declared.stop.TableSource.{TableSource}

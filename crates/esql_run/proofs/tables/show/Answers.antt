@@ -1,4 +1,3 @@
-use Rattle.std.proofs.Common.{refl}
 use Rattle.esql_ast.proofs.WarnedFit.{warned_nodes_fit}
 use Rattle.esql_run.proofs.tables.show.Goals as goal
 

@@ -1,6 +1,6 @@
 use Rattle.std.proofs.Common.{[], ap, refl, inl, inr, sym, ◌∙◌}
 use Rattle.answer_text.specs.Messages.{cannot_read}
-use Rattle.esql_run.specs.declared.status.Status.TheVariants.{ReadFault, NoMemory}
+use Rattle.esql_run.specs.declared.status.Status.TheVariants.{ReadFault, NoMemory, PatternRoom}
 use Rattle.esql_run.proofs.Ends.{line_fronts, line_taken}
 use Rattle.esql_run.proofs.top.run.Goals as goal
 
@@ -18,6 +18,12 @@ returns-in-Err-ReadFault-clause-prefixes g c =
 pub returns-clause-prefixes : goal.returns-clause-prefixes
 returns-clause-prefixes g c =
     line_fronts NoMemory _ _ _ _ _ _ c.write_both-in-Err-Memory.result _ _ _ _ _ _ (λ e. cc) (inl refl) (ap (λ x. ([], x)) c.out_of_memory-in-Err-Memory.ensures) c.write_both-in-Err-Memory.ensures.writes
+
+pub returns-in-Err-PatternRoom-clause-prefixes : goal.returns-in-Err-PatternRoom-clause-prefixes
+returns-in-Err-PatternRoom-clause-prefixes g c =
+    let made = rw c.in-Err-PatternRoom.field-0-is at c.in-Err-PatternRoom.ensures.made in
+    line_fronts PatternRoom c.in-Err-PatternRoom.line _ _ _ _ _ c.write_both-in-Err-PatternRoom.result _ _ _ _ _ _ (λ e. cc) (inr (inr made)) (ap (λ x. ([], x)) c.as_str-in-Err-PatternRoom.ensures)
+    c.write_both-in-Err-PatternRoom.ensures.writes
 
 pub returns-in-Ok-cannot_read-clause-faults : goal.returns-in-Ok-cannot_read-clause-faults
 returns-in-Ok-cannot_read-clause-faults g c =
