@@ -17,10 +17,10 @@ took_nothing old new ([], rest, whole, took) = took
 took_nothing old new (byte ∷ front, rest, whole, took) = absurd cc
 
 -- the output took nothing, and the error stream a front of another line
-pub line_fronts : (status : Status) (line : List ℕ) (words : List (List ℕ)) (held : Held) (read : Type 0) (failed : List ℕ) (result : Status) (texts : List ℕ × List ℕ) (out out_after err err_after : Option (List ℕ)) (rose : Type 0)
-    → (status ≡ WriteFault → ⊥) → IsOtherLine words held read failed line → texts ≡ ([], line) → Writes status result texts out out_after err err_after rose → result ≡ WriteFault
-    → TookFronts words held read failed out out_after err err_after
-line_fronts status line words held read failed result texts out out_after err err_after rose other is are writes fault =
+pub line_fronts : (status : Status) (line : List ℕ) (words : List (List ℕ)) (held : Held) (read : Type 0) (failed : List ℕ) (IsRoom : List ℕ → Type 0) (result : Status) (texts : List ℕ × List ℕ) (out out_after err err_after : Option (List ℕ)) (rose : Type 0)
+    → (status ≡ WriteFault → ⊥) → IsOtherLine words held read failed IsRoom line → texts ≡ ([], line) → Writes status result texts out out_after err err_after rose → result ≡ WriteFault
+    → TookFronts words held read failed IsRoom out out_after err err_after
+line_fronts status line words held read failed IsRoom result texts out out_after err err_after rose other is are writes fault =
     ⊎_elim
     (λ (both : WroteBoth status result texts out out_after err err_after). absurd (other (sym both.same ∙ fault)))
     (λ (stopped : FailedWrite result texts out out_after err err_after rose). inr (inr (⊎_elim

@@ -1,5 +1,5 @@
 -- Words have at most one outcome.
-use Rattle.std.proofs.Common.{true, false, Bool, ◌≡◌, inl, inr, ℕ, ◌<◌, List, [], ◌∷◌, length, slice_get, Some, None, refl, sym, ap, ◌∙◌, subst, arith}
+use Rattle.std.proofs.Common.{◌≡◌, inl, inr, ℕ, ◌<◌, List, [], ◌∷◌, length, slice_get, Option, Some, None, refl, sym, ap, ◌∙◌, subst, arith}
 use Rattle.esql_lex.specs.declared.error.LexError.{LexError}
 use Rattle.esql_lex.specs.declared.error.LexError.TheVariants as fault
 use Rattle.esql_lex.specs.declared.token.Token.{Token}
@@ -14,10 +14,11 @@ use Rattle.answer_text.specs.declared.refusals.Refusal.TheVariants as refusal
 use Rattle.esql_io.specs.Files.{Held}
 use Rattle.ndjson_load.specs.Over.{BytesOf}
 use Rattle.esql_run.specs.Bytes.{Outcome, refused}
-use Rattle.esql_run.specs.From.{is_one_table, names_of, span_of}
-use Rattle.esql_run.specs.Outcome.{IsQuery, IsAnswer, IsOutcome, AnswersBy, AnswersQuery, ReadsKnown, outcome_of}
-use Rattle.esql_run.specs.Unread.{IsNoQuery, too_long, bad_character, open_string, bad_escape, open_comment, wide_number, unexpected, too_deep, too_many, HasFault, HasRefusal, unexpected_kind, point_at}
-use Rattle.esql_run.proofs.OneFrom.{TableLaws, one_from}
+use Rattle.esql_run.specs.Built.{unbuilt_of}
+use Rattle.esql_run.specs.Outcome.{IsAnswer, IsOutcome, AnswersBy, AnswersQuery, ReadsKnown}
+use Rattle.esql_run.specs.Tables.{table_names}
+use Rattle.esql_answer.specs.Queries.{IsQuery, IsNoQuery, too_long, bad_character, open_string, bad_escape, open_comment, wide_number, unexpected, too_deep, too_many, HasFault, HasRefusal, unexpected_kind, point_at}
+use Rattle.esql_run.proofs.OneTables.{TableLaws, one_over_tables, over_any}
 
 -- where a fault stands, and how it is refused
 abbrev fault_at : LexError → Span
@@ -114,20 +115,22 @@ no_reason laws text query why span is (by_refusal e t has a b) =
     laws.no_refusal text has.tokens query e (subst (λ ts. Spells text ts query) tokens is.spelled) has.refuses
 
 -- over files that tell what they hold, a query has one answer
-one_by : (laws : Laws) (one_table : Bool) (text : List ℕ) (held : BytesOf) (query : Query) (outcome other : Outcome) → AnswersBy one_table text (Some held) query outcome
-    → AnswersBy one_table text (Some held) query other → outcome ≡ other
-one_by laws true text held query outcome other is was = one_from laws.tables held text (span_of query.source) (names_of query.source) outcome other is was
-one_by laws false text held query outcome other is was = is ∙ sym was
+one_by : (laws : Laws) (unbuilt : Option Span) (text : List ℕ) (held : BytesOf) (query : Query) (outcome other : Outcome) → AnswersBy unbuilt text (Some held) query outcome
+    → AnswersBy unbuilt text (Some held) query other → outcome ≡ other
+one_by laws (Some span) text held query outcome other is was = is ∙ sym was
+one_by laws None text held query outcome other is was = one_over_tables laws.tables held text query outcome other is was
 
 -- so has one for which no file is read
-by_forms : (text : List ℕ) (held : Held) (query : Query) (outcome : Outcome) → is_one_table query ≡ false → AnswersQuery text held query outcome → outcome ≡ outcome_of text query
-by_forms text held query outcome none is =
-    subst (λ (b : Bool). AnswersBy b text held query outcome) none is
+one_unread : (laws : Laws) (unbuilt : Option Span) (text : List ℕ) (query : Query) (outcome other : Outcome) → (unbuilt ≡ None → table_names query ≡ []) → AnswersBy unbuilt text None query outcome
+    → AnswersBy unbuilt text None query other → outcome ≡ other
+one_unread laws (Some span) text query outcome other none is was = is ∙ sym was
+one_unread laws None text query outcome other none (one, is) (held, was) =
+    one_over_tables laws.tables held text query outcome other (over_any one held text query outcome (none refl) is) was
 
 same_answer : (laws : Laws) (text : List ℕ) (held : Held) (query : Query) (outcome other : Outcome) → ReadsKnown (text ∷ []) held → IsQuery text query → AnswersQuery text held query outcome
     → AnswersQuery text held query other → outcome ≡ other
-same_answer laws text (Some held) query outcome other known is a b = one_by laws (is_one_table query) text held query outcome other a b
-same_answer laws text None query outcome other known is a b = by_forms text None query outcome (known query is) a ∙ sym (by_forms text None query other (known query is) b)
+same_answer laws text (Some held) query outcome other known is a b = one_by laws (unbuilt_of query) text held query outcome other a b
+same_answer laws text None query outcome other known is a b = one_unread laws (unbuilt_of query) text query outcome other (known query is) a b
 
 same_query : (laws : Laws) (text : List ℕ) (query other : Query) → IsQuery text query → IsQuery text other → query ≡ other
 same_query laws text query other is was =

@@ -2,9 +2,10 @@
 use Rattle.std.specs.Prelude.{ℕ, List, []}
 use Rattle.esql_types.specs.declared.places.Span.{Span}
 use Rattle.answer_text.specs.declared.refusals.Refusal.{Refusal}
+use Rattle.answer_text.specs.Messages.{bad_data_line}
 use Rattle.answer_text.specs.Refusals.{refusal_line}
 use Rattle.esql_run.specs.declared.status.Status.{Status}
-use Rattle.esql_run.specs.declared.status.Status.TheVariants.{Refused}
+use Rattle.esql_run.specs.declared.status.Status.TheVariants.{Refused, BadData}
 
 pub record Outcome : Type 0 where
   pub status : Status
@@ -14,3 +15,7 @@ pub record Outcome : Type 0 where
 -- the refusal of a part of the text
 abbrev pub refused : List ℕ → Refusal → Span → Outcome
 refused text refusal span = record { status = Refused; out = []; err = refusal_line text refusal span }
+
+-- a file is bad, as a message says that names it
+abbrev pub bad_file : List ℕ → Outcome
+bad_file message = record { status = BadData; out = []; err = bad_data_line message }

@@ -1,9 +1,10 @@
 pub mod Answers
+pub mod Built
 pub mod Bytes
 pub mod Codes
-pub mod From
 pub mod Made
 pub mod Outcome
+pub mod Rooms
 pub mod Stopped
-pub mod Unread
+pub mod Tables
 pub mod Writing

@@ -1,41 +1,40 @@
-ghost use Rattle.std.specs.Prelude.{◌≡◌, [], map, IfOk};
+ghost use Rattle.std.specs.Prelude.{◌≡◌, ◌≤◌, map, IfOk};
 ghost use Rattle.std.specs.String.{string_bytes};
 ghost use Rattle.esql_ast.specs.Fits.{QueryFits};
-ghost use Rattle.row_queries.specs.Tables.{IsShaped};
-ghost use Rattle.row_queries.specs.Shapes.{shape_of};
-ghost use Rattle.row_queries.specs.Unbuilt.{unbuilt_of};
+ghost use Rattle.esql_ast.specs.Laws.{IsNumbered};
 ghost use Rattle.esql_run.specs.Answers.{IsTold};
-ghost use Rattle.esql_run.specs.Outcome.{IsOutcome, IsAnswer, AnswersQuery, AsksForQuery, IsFileFor, AsksFile, outcome_of, outcome_built, done, wrong_words};
 ghost use Rattle.esql_run.specs.Made.{outcome_made};
-ghost use Rattle.esql_run.specs.Stopped.{CalledToAnswer};
+ghost use Rattle.esql_run.specs.Outcome.{IsOutcome, IsAnswer, AnswersQuery, AsksForQuery, IsFileFor, AsksFile, wrong_words};
+ghost use Rattle.esql_run.specs.Rooms.{IsRoomLine, IsRoomIn, IsRoomOf};
+ghost use Rattle.esql_run.specs.Stopped.{CalledToAnswer, MadeToAnswer};
 
 use crate::Status;
-use crate::from::answer_from;
-use crate::query::{Unread, read_query};
 use crate::rendered::{Rendered, Unanswered, refuse};
-use crate::rows::cells_of_rows;
-use answer_text::{Refusal, usage, warnings};
-use esql_ast::{Query, SourceCommand, warned_nodes_of};
+use crate::tables::answer_tables;
+use crate::unbuilt::first_unbuilt;
+use answer_text::{Refusal, usage};
+use esql_answer::{QueryError, read_query};
+use esql_ast::Query;
 use esql_io::Files;
-use esql_types::Text;
-use row_queries::{AnswerError, Ran, Table, first_unbuilt, meaning_of};
+use esql_types::{Maker, Text};
 use std::alloc::{AllocError, Global};
-use table_out::txt;
 
 /// The answer to the words of the command line.
-pub(crate) fn answer<F: Files>(
+pub(crate) fn answer<F: Files, M: Maker>(
     alloc: Global,
     words: &[String],
     files: &mut F,
+    maker: &mut M,
 ) -> Result<Rendered, Unanswered>
     ensures told { IfOk result (λ answer. IsOutcome (map string_bytes words.now) (F.holds files.old) (outcome_made answer)) }
     ensures status { IfOk result (λ answer. IsTold answer.status) }
     ensures called { CalledToAnswer F.holds F.faults F.failed (AsksFile (map string_bytes words.now) (F.holds files.old)) result files.old files.new }
+    ensures made { MadeToAnswer M.refused (IsRoomLine M.refused M.last (map string_bytes words.now) (F.holds files.old)) result maker.old maker.new }
 {
     if words.len() != 1 {
         return Ok(wrong_words(alloc)?);
     }
-    answer_text(alloc, words[0].as_str(), files)
+    answer_text(alloc, words[0].as_str(), files, maker)
 }
 
 fn wrong_words(alloc: Global) -> Result<Rendered, AllocError>
@@ -48,78 +47,41 @@ fn wrong_words(alloc: Global) -> Result<Rendered, AllocError>
     })
 }
 
-fn answer_text<F: Files>(alloc: Global, text: &str, files: &mut F) -> Result<Rendered, Unanswered>
+fn answer_text<F: Files, M: Maker>(
+    alloc: Global,
+    text: &str,
+    files: &mut F,
+    maker: &mut M,
+) -> Result<Rendered, Unanswered>
     ensures told { IfOk result (λ answer. IsAnswer text.now (F.holds files.old) (outcome_made answer)) }
     ensures status { IfOk result (λ answer. IsTold answer.status) }
     ensures called { CalledToAnswer F.holds F.faults F.failed (IsFileFor text.now (F.holds files.old)) result files.old files.new }
+    ensures made { MadeToAnswer M.refused (IsRoomIn M.refused M.last text.now (F.holds files.old)) result maker.old maker.new }
 {
     match read_query(alloc, text) {
-        Ok(query) => answer_query(alloc, text, &query, files),
-        Err(Unread::Refused { refusal, span }) => Ok(refuse(alloc, text, refusal, span)?),
-        Err(Unread::Memory(error)) => Err(Unanswered::Memory(error)),
+        Ok(query) => answer_query(alloc, text, &query, files, maker),
+        Err(QueryError::Refused { refusal, span }) => Ok(refuse(alloc, text, refusal, span)?),
+        Err(QueryError::Memory(error)) => Err(Unanswered::Memory(error)),
     }
 }
 
-fn answer_query<F: Files>(
+fn answer_query<F: Files, M: Maker>(
     alloc: Global,
     text: &str,
     query: &Query,
     files: &mut F,
+    maker: &mut M,
 ) -> Result<Rendered, Unanswered>
-    requires { QueryFits text.now query.now }
+    requires fits { QueryFits text.now query.now }
+    requires numbered { IsNumbered query.now }
+    requires few { query.now.nodes ≤ 65537 }
     ensures told { IfOk result (λ answer. AnswersQuery text.now (F.holds files.old) query.now (outcome_made answer)) }
     ensures status { IfOk result (λ answer. IsTold answer.status) }
-    ensures called { CalledToAnswer F.holds F.faults F.failed (AsksForQuery (F.holds files.old) query.now) result files.old files.new }
-{
-    match &query.source {
-        SourceCommand::Tables { span, tables, .. }
-            if tables.len() == 1 && query.commands.len() == 0 => {
-            answer_from(alloc, text, *span, tables.as_slice(), files)
-        }
-        _ => Ok(answer_forms(alloc, text, query)?),
-    }
-}
-
-fn answer_forms(alloc: Global, text: &str, query: &Query) -> Result<Rendered, AllocError>
-    requires { QueryFits text.now query.now }
-    ensures told { IfOk result (λ answer. outcome_made answer ≡ outcome_of text.now query.now) }
-    ensures status { IfOk result (λ answer. IsTold answer.status) }
+    ensures called { CalledToAnswer F.holds F.faults F.failed (AsksForQuery text.now (F.holds files.old) query.now) result files.old files.new }
+    ensures made { MadeToAnswer M.refused (IsRoomOf M.refused M.last text.now (F.holds files.old) query.now) result maker.old maker.new }
 {
     match first_unbuilt(query) {
-        Some(span) => refuse(alloc, text, Refusal::NotBuilt, span),
-        None => answer_built(alloc, text, query),
+        Some(span) => Ok(refuse(alloc, text, Refusal::NotBuilt, span)?),
+        None => answer_tables(alloc, text, query, files, maker),
     }
-}
-
-fn answer_built(alloc: Global, text: &str, query: &Query) -> Result<Rendered, AllocError>
-    requires fits { QueryFits text.now query.now }
-    requires built { unbuilt_of query.now ≡ [] }
-    ensures told { IfOk result (λ answer. outcome_made answer ≡ outcome_built text.now query.now (shape_of text.now query.now)) }
-    ensures status { IfOk result (λ answer. IsTold answer.status) }
-{
-    match meaning_of(alloc, text, query) {
-        Ok(ran) => show(alloc, text, query, ran),
-        Err(AnswerError::UnknownColumn { span }) => {
-            refuse(alloc, text, Refusal::UnknownColumn, span)
-        }
-        Err(AnswerError::Memory(error)) => Err(error),
-    }
-}
-
-fn show(alloc: Global, text: &str, query: &Query, ran: Ran) -> Result<Rendered, AllocError>
-    requires fits { QueryFits text.now query.now }
-    requires shaped { IsShaped ran.table }
-    ensures { IfOk result (λ answer. outcome_made answer ≡ done text.now query.now ran) }
-{
-    let Ran {
-        table: Table { columns, rows },
-        failures,
-    } = ran;
-    let nodes = warned_nodes_of(alloc, query)?;
-    let rows = cells_of_rows(alloc, rows)?;
-    Ok(Rendered {
-        status: Status::Done,
-        out: txt(alloc, &columns, &rows)?,
-        err: warnings(alloc, text, &nodes, &failures)?,
-    })
 }

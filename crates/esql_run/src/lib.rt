@@ -1,20 +1,19 @@
 //! The top call: the words of the command line go in, and the bytes of an answer come out.
+//!
+//! Read its specs in this order: `Bytes`, `Built`, `Tables`, `Outcome`, `Rooms`, `Answers`.
 #![tactic(auto)]
 
 mod answer;
-mod from;
 mod laws;
-mod query;
 mod rendered;
-mod rows;
 mod status;
+mod tables;
 #[cfg(test)]
 mod tests;
-#[cfg(test)]
-mod tests_from;
 mod top;
+mod unbuilt;
 mod writing;
 
-pub use laws::one_outcome;
+pub use laws::{none_unbuilt, one_outcome};
 pub use status::Status;
 pub use top::run;

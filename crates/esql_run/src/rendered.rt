@@ -1,10 +1,10 @@
 ghost use Rattle.std.specs.Prelude.{◌≡◌, ◌≤◌, ◌<◌, IfOk};
 ghost use Rattle.std.specs.Str.{IsCharBoundary};
-ghost use Rattle.esql_run.specs.Bytes.{refused};
+ghost use Rattle.esql_run.specs.Bytes.{refused, bad_file};
 ghost use Rattle.esql_run.specs.Made.{outcome_made};
 
 use crate::Status;
-use answer_text::{Refusal, refusal_line};
+use answer_text::{Refusal, bad_data_line, refusal_line};
 use esql_types::{Span, Text};
 use std::alloc::{AllocError, Global};
 
@@ -21,6 +21,8 @@ pub(crate) struct Rendered {
 pub(crate) enum Unanswered {
     /// A call on a file failed.
     ReadFault { file: Text },
+    /// A regular expression is too large, as the line says.
+    PatternRoom { line: Text },
     Memory(AllocError),
 }
 
@@ -51,5 +53,16 @@ pub(crate) fn refuse(
         status: Status::Refused,
         out: Text::from_str(alloc, "")?,
         err: refusal_line(alloc, text, refusal, span)?,
+    })
+}
+
+/// The answer where a file is bad, as a message says that names it.
+pub(crate) fn bad_file(alloc: Global, message: &str) -> Result<Rendered, AllocError>
+    ensures { IfOk result (λ answer. outcome_made answer ≡ bad_file message.now) }
+{
+    Ok(Rendered {
+        status: Status::BadData,
+        out: Text::from_str(alloc, "")?,
+        err: bad_data_line(alloc, message)?,
     })
 }

@@ -1,26 +1,70 @@
 use super::*;
-use esql_io::{MemoryFiles, MemorySink};
-use esql_types::{CrateMaker, Seq};
+use esql_io::{HeldFile, MemoryFiles, MemorySink};
+use esql_types::{CrateMaker, Seq, Text};
 use std::alloc::{AllocError, Global};
 use std::test::Fail;
 
-const HEAD: &str = "failed, treating result as null. Only first 20 failures recorded.";
+/// Never the number of a call.
+const NEVER: u64 = 1_000_000;
 
-/// A run with ample room, over sinks whose calls of these numbers fail.
+const MAPPING: &str =
+    "{\"mappings\":{\"properties\":{\"a\":{\"properties\":{\"b\":{\"type\":\"long\"}}}}}}";
+
+const ROWS: &str =
+    "{\"a\":{\"b\":1}}\r\n\r\n{\"a\":[{\"b\":2},{\"b\":[3,null]}]}\r\n{\"a.b\":4}";
+
+/// The numbers of the calls that fail.
+#[derive(Clone, Copy)]
+struct Failing {
+    read: u64,
+    built: u64,
+    write: u64,
+}
+
+const NONE: Failing = Failing {
+    read: NEVER,
+    built: NEVER,
+    write: NEVER,
+};
+
+fn one(alloc: Global, call: u64) -> Result<Seq<u64>, AllocError> {
+    let mut calls = Seq::new(alloc);
+    calls.push(call)?;
+    Ok(calls)
+}
+
+fn hold(
+    files: &mut Seq<HeldFile>,
+    alloc: Global,
+    name: &str,
+    content: &str,
+) -> Result<(), AllocError> {
+    let mut bytes = Vec::new(alloc);
+    bytes.extend_from_slice(content.as_bytes())?;
+    files.push(HeldFile {
+        name: Text::from_str(alloc, name)?,
+        bytes: Seq::from_vec(bytes),
+    })
+}
+
+/// A run over a table `t`, whose files are read in pieces of 16 bytes, over sinks that take 10 bytes at once.
 fn run_over(
     alloc: Global,
     words: &[&str],
-    piece: usize,
-    failing: (Option<u64>, Option<u64>),
+    rows: &str,
+    failing: Failing,
 ) -> Result<(Status, MemorySink, MemorySink), AllocError> {
     let mut texts = Vec::new(alloc);
     for word in words {
         texts.push(String::from_str(alloc, word)?)?;
     }
-    let mut files = MemoryFiles::new(Seq::new(alloc), 1, Seq::new(alloc));
-    let mut maker = CrateMaker::new(Seq::new(alloc));
-    let mut out = MemorySink::new(alloc, 100_000, piece.max(1), calls(alloc, failing.0)?)?;
-    let mut err = MemorySink::new(alloc, 100_000, piece.max(1), calls(alloc, failing.1)?)?;
+    let mut held = Seq::new(alloc);
+    hold(&mut held, alloc, "t.mapping.json", MAPPING)?;
+    hold(&mut held, alloc, "t.ndjson", rows)?;
+    let mut files = MemoryFiles::new(held, 16, one(alloc, failing.read)?);
+    let mut maker = CrateMaker::new(one(alloc, failing.built)?);
+    let mut out = MemorySink::new(alloc, 10_000, 10, one(alloc, failing.write)?)?;
+    let mut err = MemorySink::new(alloc, 10_000, 10, Seq::new(alloc))?;
     let status = run(
         alloc,
         texts.as_slice(),
@@ -32,196 +76,163 @@ fn run_over(
     Ok((status, out, err))
 }
 
-fn calls(alloc: Global, failing: Option<u64>) -> Result<Seq<u64>, AllocError> {
-    let mut numbers = Seq::new(alloc);
-    if let Some(number) = failing {
-        numbers.push(number)?;
-    }
-    Ok(numbers)
-}
-
-/// A query, its status, what is shown, and the places and parts of its warnings.
-struct Row {
+/// A query, its status, and what is written; `W` stands for what a head says of each failure.
+struct Case {
     query: &'static str,
     status: Status,
     out: &'static str,
     err: &'static str,
 }
 
-const ROWS: [Row; 20] = [
-    Row {
+const HEAD: &str = "failed, treating result as null. Only first 20 failures recorded.";
+
+const CASES: [Case; 13] = [
+    Case {
         query: "ROW a = 1 | EVAL b = a + 2",
         status: Status::Done,
         out: "a | b\n--+--\n1 | 3\n",
         err: "",
     },
-    Row {
+    Case {
         query: "ROW a = 5, b = [1, 2] | EVAL a + b",
         status: Status::Done,
         out: "a | b      | a + b\n--+--------+------\n5 | [1, 2] | null\n",
         err: "Line 1:30: evaluation of [a + b] W\nLine 1:30: single-value function encountered multi-value\n",
     },
-    Row {
-        query: "ROW a = [1, 2] | EVAL a + 1 + 1",
+    Case {
+        query: "ROW x = [1, 2] | EVAL y = x + 1 | LIMIT 0",
         status: Status::Done,
-        out: "a      | a + 1 + 1\n-------+----------\n[1, 2] | null\n",
-        err: "Line 1:23: evaluation of [a + 1] W\nLine 1:23: single-value function encountered multi-value\n",
+        out: "x | y\n--+--\n",
+        err: "Line 1:27: evaluation of [x + 1] W\nLine 1:27: single-value function encountered multi-value\n",
     },
-    Row {
-        query: "ROW a = 2147483647 | EVAL b = a + 1",
+    Case {
+        query: "ROW a = 1, b = 2, c = 3 | RENAME a AS b, b AS c",
         status: Status::Done,
-        out: "a          | b\n-----------+-----\n2147483647 | null\n",
-        err: "Line 1:31: evaluation of [a + 1] W\nLine 1:31: integer overflow\n",
-    },
-    Row {
-        query: "ROW a = 1, a = a + 1",
-        status: Status::Done,
-        out: "a\n-\n2\n",
+        out: "c\n-\n1\n",
         err: "",
     },
-    Row {
-        query: "ROW a = 1 | EVAL b = zz",
-        status: Status::Refused,
-        out: "",
-        err: "line 1:22: unknown column [zz]\n",
-    },
-    Row {
-        query: "FROM t",
-        status: Status::Refused,
-        out: "",
-        err: "line 1:6: unknown table [t]\n",
-    },
-    Row {
-        query: "ROW a = 1, b = 2 | EVAL a = b\n+ 1",
+    Case {
+        query: "ROW a = 1, b = 2 | DROP a",
         status: Status::Done,
-        out: "b | a\n--+--\n2 | 3\n",
+        out: "b\n-\n2\n",
         err: "",
     },
-    Row {
-        query: "FROM t | EVAL x = ",
+    Case {
+        query: "ROW a = 1, b = 2 | DROP z*",
+        status: Status::Refused,
+        out: "",
+        err: "line 1:25: no column matches [z*]\n",
+    },
+    Case {
+        query: "ROW a = 1, b = 2 | DROP *",
+        status: Status::Refused,
+        out: "",
+        err: "line 1:20: no columns are left\n",
+    },
+    Case {
+        query: "FROM u | SORT a",
+        status: Status::Refused,
+        out: "",
+        err: "line 1:10: command not built\n",
+    },
+    Case {
+        query: "FROM u | EVAL x = ",
         status: Status::Refused,
         out: "",
         err: "line 1:19: unexpected end of query\n",
     },
-    Row {
-        query: "ROW a = \"x",
+    Case {
+        query: "FROM u",
         status: Status::Refused,
         out: "",
-        err: "line 1:9: text or name is not closed\n",
+        err: "line 1:6: unknown table [u]\n",
     },
-    Row {
-        query: "ROW a = \"\\q\"",
-        status: Status::Refused,
-        out: "",
-        err: "line 1:10: unknown escape\n",
-    },
-    Row {
-        query: "ROW a = 9223372036854775808",
-        status: Status::Refused,
-        out: "",
-        err: "line 1:9: number is too large\n",
-    },
-    Row {
-        query: "ROW a = 1 ! b",
-        status: Status::Refused,
-        out: "",
-        err: "line 1:11: unexpected character\n",
-    },
-    Row {
-        query: "ROW a = 1 /* x",
-        status: Status::Refused,
-        out: "",
-        err: "line 1:11: comment is not closed\n",
-    },
-    Row {
-        query: "ROW a = 1 == 2 == 3",
-        status: Status::Refused,
-        out: "",
-        err: "line 1:16: unexpected [==]\n",
-    },
-    Row {
-        query: "ROW a = 1 | LIMIT 1",
-        status: Status::Refused,
-        out: "",
-        err: "line 1:13: command not built\n",
-    },
-    Row {
-        query: "ROW a = (1 + zz)",
-        status: Status::Refused,
-        out: "",
-        err: "line 1:14: unknown column [zz]\n",
-    },
-    Row {
-        query: "ROW a = [1, 2147483648]",
-        status: Status::Refused,
-        out: "",
-        err: "line 1:9: command not built\n",
-    },
-    Row {
-        query: "ROW a = 1 // one\n/* two */\n| EVAL b = zz",
-        status: Status::Refused,
-        out: "",
-        err: "line 3:12: unknown column [zz]\n",
-    },
-    Row {
-        query: "ROW a = [1, -2] | EVAL b = (a + 1) + 2",
+    Case {
+        query: "FROM t",
         status: Status::Done,
-        out: "a       | b\n--------+-----\n[1, -2] | null\n",
-        err: "Line 1:29: evaluation of [a + 1] W\nLine 1:29: single-value function encountered multi-value\n",
+        out: "a.b\n------\n1\n[2, 3]\n4\n",
+        err: "",
+    },
+    Case {
+        query: "FROM t, t | WHERE a.b > 3",
+        status: Status::Done,
+        out: "a.b\n---\n4\n",
+        err: "Line 1:19: evaluation of [a.b > 3] W\nLine 1:19: single-value function encountered multi-value\n",
+    },
+    Case {
+        query: "FROM t | EVAL x = zz",
+        status: Status::Refused,
+        out: "",
+        err: "line 1:19: unknown column [zz]\n",
     },
 ];
 
 #[test]
 fn queries(rt: HostRuntime) -> Result<(), Fail> {
-    for row in &ROWS {
-        let (status, out, err) = run_over(rt.alloc(), &[row.query], 7, (None, None))?;
-        let warnings = row.err.replace(rt.alloc(), "W", HEAD)?;
-        assert_eq!(rt; status, row.status);
-        assert_eq!(rt; out.bytes(), row.out.as_bytes());
+    for case in &CASES {
+        let (status, out, err) = run_over(rt.alloc(), &[case.query], ROWS, NONE)?;
+        let warnings = case.err.replace(rt.alloc(), "W", HEAD)?;
+        assert_eq!(rt; status, case.status);
+        assert_eq!(rt; out.bytes(), case.out.as_bytes());
         assert_eq!(rt; err.bytes(), warnings.as_bytes());
     }
     Ok(())
 }
 
 #[test]
+fn bad_rows_are_named_behind_broken_rules(rt: HostRuntime) -> Result<(), Fail> {
+    let (status, _, err) = run_over(rt.alloc(), &["FROM t"], "{\"a\":{\"b\":1.5}}", NONE)?;
+    assert_eq!(rt; status, Status::BadData);
+    assert_eq!(rt;
+        err.bytes(),
+        b"t.ndjson:1: field [a.b]: not a whole number in range\n".as_slice()
+    );
+    let (status, _, err) = run_over(rt.alloc(), &["FROM t | KEEP zz"], "[", NONE)?;
+    assert_eq!(rt; status, Status::Refused);
+    assert_eq!(rt; err.bytes(), b"line 1:15: unknown column [zz]\n".as_slice());
+    Ok(())
+}
+
+#[test]
 fn other_words_show_the_usage(rt: HostRuntime) -> Result<(), Fail> {
-    let (status, out, err) = run_over(rt.alloc(), &[], 1000, (None, None))?;
+    let (status, out, err) = run_over(rt.alloc(), &[], ROWS, NONE)?;
     assert_eq!(rt; status.code(), 2);
     assert_eq!(rt; out.bytes(), b"".as_slice());
     assert!(rt; err.bytes().starts_with(b"usage: esql [--data DIR]"));
-    let (status, _, _) = run_over(rt.alloc(), &["ROW a = 1", "ROW a = 1"], 1000, (None, None))?;
-    assert_eq!(rt; status, Status::Usage);
     Ok(())
 }
 
-// Each write of the output, and each of the error stream, fails in turn, until a run has no fault.
 #[test]
-fn a_failed_write_ends_the_run(rt: HostRuntime) -> Result<(), Fail> {
-    let table = b"a | b\n--+--\n1 | 3\n";
+fn a_pattern_is_too_large(rt: HostRuntime) -> Result<(), Fail> {
+    let words = ["ROW s = \"ab\" | EVAL x = s RLIKE \"a+\""];
     for call in 0..3 {
-        let words = ["ROW a = 1 | EVAL b = a + 2"];
-        let (status, out, err) = run_over(rt.alloc(), &words, 10, (Some(call), None))?;
-        let is_done = call == 2;
-        assert_eq!(rt; status == Status::Done, is_done);
-        assert_eq!(rt; status == Status::WriteFault, !is_done);
-        assert!(rt; table.starts_with(out.bytes()));
-        assert_eq!(rt; out.bytes().len() as u64, (10 * call).min(18));
-        assert_eq!(rt; err.bytes(), b"".as_slice());
+        let failing = Failing {
+            built: call,
+            ..NONE
+        };
+        let (status, out, err) = run_over(rt.alloc(), &words, ROWS, failing)?;
+        if call < 2 {
+            assert_eq!(rt; status.code(), 7);
+            assert_eq!(rt; out.bytes(), b"".as_slice());
+            assert_eq!(rt; err.bytes(), b"line 1:33: pattern too large\n".as_slice());
+        } else {
+            assert_eq!(rt; status, Status::Done);
+        }
     }
     Ok(())
 }
 
 #[test]
-fn a_failed_warning_ends_the_run(rt: HostRuntime) -> Result<(), Fail> {
-    let words = ["ROW a = 2147483647 | EVAL b = a + 1"];
-    let (_, table, warnings) = run_over(rt.alloc(), &words, 40, (None, None))?;
-    for call in 0..5 {
-        let (status, out, err) = run_over(rt.alloc(), &words, 40, (None, Some(call)))?;
-        let is_done = call == 4;
-        assert_eq!(rt; status == Status::Done, is_done);
-        assert_eq!(rt; status == Status::WriteFault, !is_done);
-        assert_eq!(rt; out.bytes(), table.bytes());
-        assert!(rt; warnings.bytes().starts_with(err.bytes()));
-    }
+fn a_failed_call_ends_the_run(rt: HostRuntime) -> Result<(), Fail> {
+    let failing = Failing { read: 2, ..NONE };
+    let (status, out, err) = run_over(rt.alloc(), &["FROM t"], ROWS, failing)?;
+    assert_eq!(rt; status.code(), 4);
+    assert_eq!(rt; out.bytes(), b"".as_slice());
+    assert_eq!(rt; err.bytes(), b"cannot read t.mapping.json\n".as_slice());
+    let failing = Failing { write: 1, ..NONE };
+    let (status, out, err) = run_over(rt.alloc(), &["ROW a = 1 | EVAL b = a + 2"], ROWS, failing)?;
+    assert_eq!(rt; status.code(), 5);
+    assert_eq!(rt; out.bytes(), b"a | b\n--+-".as_slice());
+    assert_eq!(rt; err.bytes(), b"".as_slice());
     Ok(())
 }
