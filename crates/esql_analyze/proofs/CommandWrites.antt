@@ -1,26 +1,23 @@
 -- A command writes what it is to write, and what the maker is not asked for it does not tell.
-use Rattle.std.proofs.Common.{◌≡◌, ℕ, Bool, true, false, cond, List, [], ◌∷◌, Option, Some, None, Result, Ok, Err, refl, ap, subst, ◌∙◌}
+use Rattle.std.proofs.Common.{◌≡◌, ℕ, List, [], ◌∷◌, Option, Some, None, Result, Ok, Err, ap, subst, ◌∙◌}
 use Rattle.esql_types.specs.declared.places.Span.{Span}
 use Rattle.esql_types.specs.declared.names.Column.{Column}
 use Rattle.esql_ast.specs.declared.query.Command.{Command}
-use Rattle.esql_ast.specs.declared.query.NamePattern.{NamePattern}
-use Rattle.esql_ast.specs.declared.query.RenamePair.{RenamePair}
 use Rattle.plan_semantics.specs.Plans.{columns_of}
 use Rattle.row_semantics.specs.declared.rule.NameRule.{NameRule}
 use Rattle.row_semantics.specs.declared.rule.NameRule.TheVariants as rule
 use Rattle.row_semantics.specs.Kinds.{and_then}
 use Rattle.row_semantics.specs.Regulars.{Regular, is_accepted}
-use Rattle.row_semantics.specs.Scopes.{Broken}
-use Rattle.query_semantics.specs.Shapes.{Shape, unless_unmet, unless_missing, shape_of_kind, unless_empty, shape_of_command}
+use Rattle.query_semantics.specs.Shapes.{Shape, shape_of_kind, unless_empty, shape_of_command}
 use Rattle.query_semantics.specs.Written.{Writing, write_kind, write_command}
 use Rattle.expression_analysis.specs.declared.error.AnalyzeError.{AnalyzeError}
 use Rattle.expression_analysis.specs.declared.error.AnalyzeError.TheVariants.{Broken as BrokenAt, PatternRoom, Memory}
-use Rattle.expression_analysis.specs.Answers.{IsRefusal, IsUntouched}
+use Rattle.expression_analysis.specs.Answers.{IsUntouched}
 use Rattle.esql_analyze.specs.declared.writing.Writing.{Writing as Made}
 use Rattle.esql_analyze.specs.Contexts.{over}
 use Rattle.esql_analyze.specs.Writings.{seen}
-use Rattle.esql_analyze.specs.Answers.{Writes, IsHeard, Hears}
-use Rattle.esql_analyze.proofs.ShapeStays.{refused_behind, refused_first, kind_stays}
+use Rattle.esql_analyze.specs.Answers.{Writes, Hears}
+use Rattle.esql_analyze.proofs.ShapeStays.{refused_behind, kind_stays}
 
 -- a shape that refuses no pattern
 abbrev pub IsPlain : Shape → Type 0
@@ -39,32 +36,9 @@ IsOther (Some other) = Unit {0}
 pub other_plain : (shape : Shape) → IsOther (rule_in shape) → IsPlain shape
 other_plain shape other span is = subst IsOther (ap rule_in is) other
 
-pub unmet_plain : (unmet : Option NamePattern) (columns : List Column) → IsPlain (unless_unmet unmet columns)
-unmet_plain None columns span is = other_plain (unless_unmet None columns) tt span is
-unmet_plain (Some pattern) columns span is = other_plain (unless_unmet (Some pattern) columns) (by_wild pattern.wild) span is
-  where
-    by_wild : (wild : Bool) → IsOther (Some (cond wild rule.NoMatch rule.UnknownColumn))
-    by_wild true = tt
-    by_wild false = tt
-
-pub missing_plain : (missing : Option RenamePair) (columns : List Column) → IsPlain (unless_missing missing columns)
-missing_plain None columns span is = other_plain (unless_missing None columns) tt span is
-missing_plain (Some pair) columns span is = other_plain (unless_missing (Some pair) columns) tt span is
-
 pub empty_plain : (at : Span) (columns : List Column) → IsPlain (unless_empty at columns)
 empty_plain at [] span is = other_plain (unless_empty at []) tt span is
 empty_plain at (column ∷ columns) span is = other_plain (unless_empty at (column ∷ columns)) tt span is
-
--- the maker is as it was where it was not asked
-untouched : {M : Type 0} (count : M → ℕ) (last : M → List ℕ) (old : M) → IsUntouched count last old old
-untouched count last old = record { counted = refl; noted = refl }
-
-pub plain_hears : {M : Type 0} (count : M → ℕ) (last : M → List ℕ) (these : List Regular) (old : M) (shape : Shape) (written : Writing) (result : Result Made AnalyzeError) → IsPlain shape
-    → Writes (λ accepts. shape) written result → Hears count last these old old result
-plain_hears count last these old shape written (Ok made) plain writes = untouched count last old
-plain_hears count last these old shape written (Err (BrokenAt rule span)) plain writes = untouched count last old
-plain_hears count last these old shape written (Err (PatternRoom span)) plain writes = absurd (plain span writes)
-plain_hears count last these old shape written (Err (Memory error)) plain writes = untouched count last old
 
 -- what was heard before something that does not ask the maker
 pub hears_then : {M : Type 0} (count : M → ℕ) (last : M → List ℕ) (these : List Regular) (old new : M) (shape : Shape) (written : Writing) (result : Result Made AnalyzeError) → IsPlain shape
@@ -83,8 +57,3 @@ command_writes text command old made (Ok new) first next = (next.0 ∙ first.0, 
 command_writes text command old made (Err error) first next =
     refused_behind (λ accepts. shape_of_kind (over text accepts) command.kind (columns_of old.visible)) (λ accepts. unless_empty command.span) (columns_of made.visible) error
     (kind_stays text command.kind (columns_of old.visible)) first.1 next
-
-pub command_refused : (text : List ℕ) (command : Command) (columns : List Column) (error : AnalyzeError) → IsRefusal (λ accepts. shape_of_kind (over text accepts) command.kind columns) error
-    → IsRefusal (λ accepts. shape_of_command (over text accepts) command columns) error
-command_refused text command columns error refused =
-    refused_first (λ accepts. shape_of_kind (over text accepts) command.kind columns) (λ accepts. unless_empty command.span) error refused

@@ -1,13 +1,13 @@
 -- What the maker is heard to say in a part is heard of the whole, where it said nothing before.
-use Rattle.std.proofs.Common.{◌≡◌, ◌⊎◌, inl, inr, ℕ, zero, suc, ◌+◌, ◌<◌, ◌≤◌, List, [], ◌∷◌, ◌++◌, length, get_or, Result, Ok, Err, refl, ap, sym, subst, ◌∙◌, arith}
+use Rattle.std.proofs.Common.{◌≡◌, inl, inr, ℕ, zero, suc, ◌<◌, ◌≤◌, List, [], ◌∷◌, ◌++◌, length, get_or, subst, ◌∙◌, arith}
 use Rattle.std.specs.List.{flat_map}
 use Rattle.esql_types.specs.declared.places.Span.{Span}
 use Rattle.esql_types.specs.Counts.{Rose}
 use Rattle.row_semantics.specs.Regulars.{Regular}
 use Rattle.expression_analysis.specs.declared.error.AnalyzeError.{AnalyzeError}
 use Rattle.expression_analysis.specs.declared.error.AnalyzeError.TheVariants.{Broken, PatternRoom, Memory}
-use Rattle.expression_analysis.specs.Answers.{IsNoted, OneIsNoted, Told, IsTold, IsUntouched, IsQuiet}
-use Rattle.esql_analyze.specs.Answers.{IsHeard, Hears}
+use Rattle.expression_analysis.specs.Answers.{OneIsNoted, IsUntouched}
+use Rattle.esql_analyze.specs.Answers.{IsHeard}
 
 -- what is noted of a part is noted of the whole
 abbrev pub IsWithin : List Regular → List Regular → Type 0
@@ -38,21 +38,3 @@ heard_more count last these those old mid new (PatternRoom span) first within he
   subst (λ n. n ≤ count new) first.counted heard.1,
 )
 heard_more count last these those old mid new (Memory error) first within heard = untouched_more count last old mid new first heard
-
--- what is heard, in the words of the public contract
-pub told_of : {M : Type 0} (count : M → ℕ) (last : M → List ℕ) (these : List Regular) (old new : M) (error : AnalyzeError) → IsHeard count last these old new error → IsTold count last these old new error
-told_of count last these old new (Broken rule span) heard = tt
-told_of count last these old new (PatternRoom span) heard = heard.0
-told_of count last these old new (Memory error) heard = tt
-
-pub counted_of : {M A : Type 0} (count : M → ℕ) (last : M → List ℕ) (these : List Regular) (old new : M) (result : Result A AnalyzeError) → Hears count last these old new result → count old ≤ count new
-counted_of count last these old new (Ok value) heard = omega (arith, heard.counted)
-counted_of count last these old new (Err (Broken rule span)) heard = omega (arith, heard.counted)
-counted_of count last these old new (Err (PatternRoom span)) heard = heard.1
-counted_of count last these old new (Err (Memory error)) heard = omega (arith, heard.counted)
-
-pub quiet_of : {M A : Type 0} (count : M → ℕ) (last : M → List ℕ) (these : List Regular) (old new : M) (result : Result A AnalyzeError) → Hears count last these old new result → IsQuiet count last old new result
-quiet_of count last these old new (Ok value) heard = heard
-quiet_of count last these old new (Err (Broken rule span)) heard = heard
-quiet_of count last these old new (Err (PatternRoom span)) heard = tt
-quiet_of count last these old new (Err (Memory error)) heard = heard

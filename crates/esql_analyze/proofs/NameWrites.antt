@@ -1,5 +1,5 @@
 -- KEEP, DROP and RENAME write what they are to write, and are refused as their shapes are.
-use Rattle.std.proofs.Common.{◌≡◌, ℕ, Bool, true, false, cond, List, [], ◌∷◌, map, Option, Some, None, Result, Ok, Err, refl, ap, sym, subst, ◌∙◌}
+use Rattle.std.proofs.Common.{◌≡◌, ℕ, cond, List, map, Option, None, Ok, Err, ap, sym, subst, ◌∙◌}
 use Rattle.esql_types.specs.declared.places.Span.{Span}
 use Rattle.esql_types.specs.declared.names.Column.{Column}
 use Rattle.esql_ast.specs.declared.kept.NameError.{NameError}
@@ -14,9 +14,8 @@ use Rattle.esql_plan.specs.declared.plan.OutColumn.{OutColumn}
 use Rattle.plan_semantics.specs.Plans.{columns_of}
 use Rattle.row_semantics.specs.declared.rule.NameRule.{NameRule}
 use Rattle.row_semantics.specs.declared.rule.NameRule.TheVariants as rule
-use Rattle.row_semantics.specs.Scopes.{Broken}
-use Rattle.row_semantics.specs.Columns.{names_of, column_as}
-use Rattle.query_semantics.specs.Shapes.{Shape, rule_of_unmet, unless_unmet, shape_of_keep, shape_of_drop, unless_missing, shape_of_rename}
+use Rattle.row_semantics.specs.Columns.{names_of}
+use Rattle.query_semantics.specs.Shapes.{Shape, unless_unmet, shape_of_keep, shape_of_drop, unless_missing, shape_of_rename}
 use Rattle.query_semantics.specs.Written.{visible_names, visible_as, write_keep, write_drop, write_rename}
 use Rattle.written_laws.proofs.Named.{names_of-columns, columns-kept, columns-left, columns-renamed}
 use Rattle.expression_analysis.specs.declared.error.AnalyzeError.{AnalyzeError}

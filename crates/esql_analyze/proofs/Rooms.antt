@@ -1,5 +1,5 @@
 -- What is written takes room for as many columns, and as many patterns of each kind, as there are nodes at most.
-use Rattle.std.proofs.Common.{◌≡◌, ℕ, ◌+◌, ◌<◌, ◌≤◌, Bool, true, false, not, cond, ◌||◌, ◌==◌, eqb, List, [], ◌∷◌, ◌++◌, map, filter, length, fold, All, Option, Some, None, refl, ap, sym, subst, ◌∙◌, arith}
+use Rattle.std.proofs.Common.{◌≡◌, ℕ, ◌+◌, ◌<◌, ◌≤◌, Bool, true, false, not, cond, ◌||◌, eqb, List, [], ◌∷◌, filter, length, fold, All, Option, Some, None, refl, arith}
 use Rattle.std.specs.Prelude.{slice_get}
 use Rattle.std.specs.List.{flat_map, filter_map, cons_option, list_any}
 use Rattle.std.specs.Option.{option_map}
@@ -17,7 +17,7 @@ use Rattle.esql_ast.specs.declared.query.CommandKind.{CommandKind}
 use Rattle.esql_ast.specs.declared.query.CommandKind.TheVariants.{Filter, Eval, Keep, Drop, Rename, Sort, Limit, Expand, Stats, Dissect, Grok, Enrich, Join}
 use Rattle.esql_ast.specs.declared.query.NamePattern.{NamePattern}
 use Rattle.esql_ast.specs.declared.query.RenamePair.{RenamePair}
-use Rattle.esql_ast.specs.NameRules.{Renaming, placed_from, placed, places_where, keep_places, drop_places, is_met, at_places, stays, with_new_name, rename_pair, is_there, with_pair, renamings, renamed_by}
+use Rattle.esql_ast.specs.NameRules.{Renaming, placed_from, placed, keep_places, drop_places, is_met, at_places, stays, with_new_name, rename_pair, is_there, with_pair, renamings, renamed_by}
 use Rattle.esql_ast.specs.NameLaws.{IsKept}
 use Rattle.esql_ast.specs.Nodes.{nodes_of_expr, nodes_of_field, nodes_of_kind, nodes_of_command}
 use Rattle.esql_ast.proofs.KeptOnce.{kept_differ, kept_are_won}

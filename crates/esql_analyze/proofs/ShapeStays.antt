@@ -1,8 +1,7 @@
 -- Where one more pattern is not accepted, the shapes of commands are as they were, or refuse at that pattern; and how refusals go
 -- on behind what was judged before.
-use Rattle.std.proofs.Common.{◌≡◌, ◌⊎◌, inl, inr, ℕ, Bool, List, [], ◌∷◌, Result, Ok, Err, refl, ap, sym, ◌∙◌}
+use Rattle.std.proofs.Common.{◌≡◌, inl, inr, ℕ, Bool, List, [], ◌∷◌, Result, Ok, refl, ap, ◌∙◌}
 use Rattle.std.specs.Prelude.{if◌then◌else◌}
-use Rattle.esql_types.specs.declared.places.Span.{Span}
 use Rattle.esql_types.specs.declared.value.Kind.{Kind}
 use Rattle.esql_types.specs.declared.value.Kind.TheVariants as kind
 use Rattle.esql_types.specs.declared.names.Column.{Column}
@@ -21,7 +20,7 @@ use Rattle.row_semantics.specs.Columns.{put_column}
 use Rattle.row_semantics.specs.Regulars.{Regular, is_accepted}
 use Rattle.row_semantics.specs.Scopes.{Broken, elsewhere}
 use Rattle.row_semantics.specs.Kinds.{breaks, and_then, kind_or_rule}
-use Rattle.query_semantics.specs.Shapes.{Shape, scope_over, shape_of_field, shape_of_fields, shape_of_condition, shape_of_kind, unless_empty, shape_of_command, shape_of_commands, shape_of_source}
+use Rattle.query_semantics.specs.Shapes.{Shape, scope_over, shape_of_field, shape_of_fields, shape_of_condition, shape_of_kind, unless_empty, shape_of_command, shape_of_source}
 use Rattle.expression_analysis.specs.declared.error.AnalyzeError.{AnalyzeError}
 use Rattle.expression_analysis.specs.declared.error.AnalyzeError.TheVariants.{Broken as BrokenAt, PatternRoom, Memory}
 use Rattle.expression_analysis.specs.Answers.{accepted_but, IsRefusal}
@@ -90,51 +89,7 @@ command_stays text command columns =
     let next : (Regular → Bool) → List Column → Shape = λ accepts. unless_empty command.span in
     then_stays (λ accepts. shape_of_kind (over text accepts) command.kind columns) next (kind_stays text command.kind columns) (λ more span. inl refl)
 
--- the catalog is looked at by FROM alone ------------------------------------------------------------------------------------
-
-pub fields_over : (text : List ℕ) (catalog : Catalog) (accepts : Regular → Bool) (fields : List Field) (columns : List Column)
-    → shape_of_fields (over_catalog text catalog accepts) fields columns ≡ shape_of_fields (over text accepts) fields columns
-fields_over text catalog accepts [] columns = refl
-fields_over text catalog accepts (field ∷ fields) columns = by_first (shape_of_field (over text accepts) field columns) (fields_over text catalog accepts fields)
-  where
-    by_first : (first : Shape) → ((more : List Column) → shape_of_fields (over_catalog text catalog accepts) fields more ≡ shape_of_fields (over text accepts) fields more)
-        → and_then first (shape_of_fields (over_catalog text catalog accepts) fields) ≡ and_then first (shape_of_fields (over text accepts) fields)
-    by_first (Ok more) rest = rest more
-    by_first (Err broken) rest = refl
-
-kind_over : (text : List ℕ) (catalog : Catalog) (accepts : Regular → Bool) (command : CommandKind) (columns : List Column)
-    → shape_of_kind (over_catalog text catalog accepts) command columns ≡ shape_of_kind (over text accepts) command columns
-kind_over text catalog accepts (Filter condition) columns = refl
-kind_over text catalog accepts (Eval fields) columns = fields_over text catalog accepts fields columns
-kind_over text catalog accepts (Keep patterns) columns = refl
-kind_over text catalog accepts (Drop patterns) columns = refl
-kind_over text catalog accepts (Rename pairs) columns = refl
-kind_over text catalog accepts (Sort keys) columns = refl
-kind_over text catalog accepts (Limit count) columns = refl
-kind_over text catalog accepts (Expand column) columns = refl
-kind_over text catalog accepts (Stats fields groups) columns = refl
-kind_over text catalog accepts (Dissect input pattern separator) columns = refl
-kind_over text catalog accepts (Grok input pattern) columns = refl
-kind_over text catalog accepts (Enrich policy on fields) columns = refl
-kind_over text catalog accepts (Join table on) columns = refl
-
-pub commands_over : (text : List ℕ) (catalog : Catalog) (accepts : Regular → Bool) (commands : List Command) (columns : List Column)
-    → shape_of_commands (over_catalog text catalog accepts) commands columns ≡ shape_of_commands (over text accepts) commands columns
-commands_over text catalog accepts [] columns = refl
-commands_over text catalog accepts (command ∷ commands) columns =
-    ap (λ (first : Shape). and_then (and_then first (unless_empty command.span)) (shape_of_commands (over_catalog text catalog accepts) commands)) (kind_over text catalog accepts command.kind columns)
-    ∙ by_first (shape_of_command (over text accepts) command columns) (commands_over text catalog accepts commands)
-  where
-    by_first : (first : Shape) → ((more : List Column) → shape_of_commands (over_catalog text catalog accepts) commands more ≡ shape_of_commands (over text accepts) commands more)
-        → and_then first (shape_of_commands (over_catalog text catalog accepts) commands) ≡ and_then first (shape_of_commands (over text accepts) commands)
-    by_first (Ok more) rest = rest more
-    by_first (Err broken) rest = refl
-
--- the shape of a source stays
+-- the shape of a source stays, and the fields of ROW do not look at the catalog
 pub source_stays : (text : List ℕ) (catalog : Catalog) (source : SourceCommand) → Stays (λ accepts. shape_of_source (over_catalog text catalog accepts) source)
 source_stays text catalog (Tables node own tables) span = inl refl
-source_stays text catalog (OneRow node own fields) span =
-    elim (fields_stay text fields [] span) [
-      | inl stays ↦ inl (fields_over text catalog (accepted_but span) fields [] ∙ stays ∙ sym (fields_over text catalog is_accepted fields []))
-      | inr refuses ↦ inr (fields_over text catalog (accepted_but span) fields [] ∙ refuses)
-    ]
+source_stays text catalog (OneRow node own fields) span = fields_stay text fields [] span

@@ -1,32 +1,26 @@
 -- FROM and ROW begin a plan as they are to.
-use Rattle.std.proofs.Common.{◌≡◌, ℕ, ◌+◌, ◌≤◌, Bool, true, false, cond, List, [], ◌∷◌, map, length, fold, Option, Some, None, Result, Ok, Err, refl, ap, sym, subst, ◌∙◌, arith}
+use Rattle.std.proofs.Common.{◌≡◌, ℕ, ◌+◌, Bool, true, false, cond, List, [], ◌∷◌, map, length, fold, Option, Some, None, Result, Ok, Err, refl, ap, sym, ◌∙◌}
 use Rattle.std.specs.List.{flat_map, list_any}
 use Rattle.std.proofs.lemmas.List.{length-append, length-map}
 use Rattle.std.proofs.lemmas.List.FromFn.{length-range_with_len}
 use Rattle.esql_types.specs.declared.places.Span.{Span}
 use Rattle.esql_types.specs.declared.names.Column.{Column}
-use Rattle.esql_types.specs.declared.names.NodeId.{NodeId}
 use Rattle.esql_ast.specs.declared.nodes.NodeAt.{NodeAt}
-use Rattle.esql_ast.specs.declared.query.Field.{Field}
 use Rattle.esql_ast.specs.declared.query.NameAt.{NameAt}
 use Rattle.esql_ast.specs.declared.query.Query.{Query}
-use Rattle.esql_ast.specs.declared.query.SourceCommand.{SourceCommand}
-use Rattle.esql_ast.specs.declared.query.SourceCommand.TheVariants.{Tables, OneRow}
 use Rattle.esql_ast.specs.Laws.{IsNumbered}
-use Rattle.esql_ast.specs.Nodes.{nodes_of, nodes_of_source, nodes_of_command, nodes_of_field}
+use Rattle.esql_ast.specs.Nodes.{nodes_of, nodes_of_source, nodes_of_command}
 use Rattle.esql_plan.specs.declared.catalog.Catalog.{Catalog}
 use Rattle.esql_plan.specs.declared.catalog.TableShape.{TableShape}
 use Rattle.esql_plan.specs.declared.plan.PlanSource.{PlanSource}
 use Rattle.esql_plan.specs.declared.plan.PlanSource.TheVariants as plan_source
-use Rattle.esql_plan.specs.declared.plan.OutColumn.{OutColumn}
 use Rattle.plan_semantics.specs.Plans.{columns_of}
 use Rattle.row_semantics.specs.declared.rule.NameRule.TheVariants as rule
-use Rattle.row_semantics.specs.Scopes.{Broken}
 use Rattle.row_semantics.specs.Kinds.{breaks, and_then}
-use Rattle.row_semantics.specs.Regulars.{Regular, is_accepted}
+use Rattle.row_semantics.specs.Regulars.{Regular}
 use Rattle.row_semantics.specs.Sources.{tables_named, table_named, with_column, clashes, with_table, with_tables, columns_of_tables, columns_or_none}
-use Rattle.query_semantics.specs.Shapes.{Shape, shape_of_fields, unless_empty, shape_of_source, shape_of_commands, shape_in}
-use Rattle.query_semantics.specs.Written.{Writing, numbered_from, scan_column, writing_of_columns, source_in_plan, write_source, write_fields}
+use Rattle.query_semantics.specs.Shapes.{Shape, unless_empty}
+use Rattle.query_semantics.specs.Written.{Writing, numbered_from, scan_column, writing_of_columns}
 use Rattle.written_laws.proofs.Sources.{columns_of-numbered}
 use Rattle.expression_analysis.specs.declared.error.AnalyzeError.{AnalyzeError}
 use Rattle.expression_analysis.specs.declared.error.AnalyzeError.TheVariants as told_error
@@ -36,12 +30,10 @@ use Rattle.source_columns.specs.declared.refusals.SourceError.TheVariants as sou
 use Rattle.source_columns.specs.Refusals.{IsRefusal as IsSourceRefusal}
 use Rattle.esql_analyze.specs.declared.writing.Writing.{Writing as Made}
 use Rattle.esql_analyze.specs.declared.source.Begun.{Begun}
-use Rattle.esql_analyze.specs.Contexts.{over, over_catalog}
-use Rattle.esql_analyze.specs.Writings.{seen, HasRoom}
+use Rattle.esql_analyze.specs.Writings.{seen}
 use Rattle.esql_analyze.specs.Plans.{IsScanned, IsScanError, Begins, shape_of_tables, tables_in_plan, write_tables}
 use Rattle.esql_analyze.specs.Answers.{Hears}
-use Rattle.esql_analyze.proofs.Stays.{Stays}
-use Rattle.esql_analyze.proofs.ShapeStays.{refused_behind, refused_first, refused_as, fields_over}
+use Rattle.esql_analyze.proofs.ShapeStays.{refused_as}
 use Rattle.esql_analyze.proofs.NameWrites.{as_told, in_memory}
 use Rattle.esql_analyze.proofs.CommandWrites.{IsPlain, other_plain, empty_plain}
 
@@ -107,34 +99,7 @@ tables_hear count last these old span names catalog source written (Err (told_er
 tables_hear count last these old span names catalog source written (Err (told_error.PatternRoom at)) begins = absurd (tables_plain span names catalog at begins)
 tables_hear count last these old span names catalog source written (Err (told_error.Memory error)) begins = record { counted = refl; noted = refl }
 
--- ROW ---------------------------------------------------------------------------------------------------------------------
-
-pub row_begins : (text : List ℕ) (fields : List Field) (empty made : Made) → seen empty ≡ writing_of_columns []
-    → (seen made ≡ write_fields text fields (seen empty)) × (shape_of_fields (over text is_accepted) fields (columns_of empty.visible) ≡ Ok (columns_of made.visible))
-    → (seen made ≡ write_fields text fields (writing_of_columns [])) × (shape_of_fields (over text is_accepted) fields [] ≡ Ok (columns_of made.visible))
-row_begins text fields empty made is writes = (
-  writes.0 ∙ ap (write_fields text fields) is,
-  ap (λ (writing : Writing). shape_of_fields (over text is_accepted) fields (columns_of writing.visible)) (sym is) ∙ writes.1,
-)
-
-pub row_told : (text : List ℕ) (fields : List Field) (empty : Made) (error : AnalyzeError) → seen empty ≡ writing_of_columns []
-    → IsRefusal (λ accepts. shape_of_fields (over text accepts) fields (columns_of empty.visible)) error → IsRefusal (λ accepts. shape_of_fields (over text accepts) fields []) error
-row_told text fields empty error is refused =
-    refused_as (λ accepts. shape_of_fields (over text accepts) fields []) (λ accepts. shape_of_fields (over text accepts) fields (columns_of empty.visible)) error
-    (λ accepts. ap (λ (writing : Writing). shape_of_fields (over text accepts) fields (columns_of writing.visible)) (sym is)) refused
-
-pub row_room : (fields : List Field) (empty : Made) → seen empty ≡ writing_of_columns [] → length (flat_map nodes_of_field fields) ≤ 65537 → HasRoom (seen empty) (length (flat_map nodes_of_field fields))
-row_room fields empty is few =
-    subst (λ (writing : Writing). HasRoom writing (length (flat_map nodes_of_field fields))) (sym is)
-    (record { shown = omega arith; columns = omega (arith, few); whole = omega (arith, few); free = omega (arith, few) })
-
-pub row_over : (text : List ℕ) (catalog : Catalog) (node : NodeId) (span : Span) (fields : List Field) (result : Result Begun AnalyzeError)
-    → Begins (λ accepts. shape_of_fields (over text accepts) fields []) plan_source.OneRow (write_fields text fields (writing_of_columns [])) result
-    → Begins (λ accepts. shape_of_source (over_catalog text catalog accepts) (OneRow node span fields)) (source_in_plan catalog (OneRow node span fields)) (write_source text catalog (OneRow node span fields)) result
-row_over text catalog node span fields (Ok begun) begins = (begins.0, (begins.1.0, fields_over text catalog is_accepted fields [] ∙ begins.1.1))
-row_over text catalog node span fields (Err error) begins =
-    refused_as (λ accepts. shape_of_source (over_catalog text catalog accepts) (OneRow node span fields)) (λ accepts. shape_of_fields (over text accepts) fields []) error
-    (λ accepts. fields_over text catalog accepts fields []) begins
+-- nodes -------------------------------------------------------------------------------------------------------------------
 
 -- the nodes of a query are as many as it says
 pub as_many_nodes : (query : Query) → IsNumbered query → length (nodes_of_source query.source) + length (flat_map nodes_of_command query.commands) ≡ query.nodes

@@ -1,5 +1,5 @@
 -- What is written item after item, each over the columns of those before it.
-use Rattle.std.proofs.Common.{◌≡◌, ℕ, suc, ◌+◌, ◌<◌, Bool, List, [], ◌∷◌, ◌++◌, length, fold, drop, get_or, Result, Ok, Err, refl, ap, sym, subst, ◌∙◌, arith}
+use Rattle.std.proofs.Common.{◌≡◌, ℕ, suc, ◌+◌, ◌<◌, Bool, List, [], ◌∷◌, length, fold, drop, get_or, Result, Ok, Err, refl, ap, sym, subst, ◌∙◌, arith}
 use Rattle.std.specs.List.{flat_map}
 use Rattle.std.proofs.Math.Seq.{drop-cons}
 use Rattle.std.proofs.lemmas.List.{length-append}
@@ -66,18 +66,9 @@ pub record Along {Item : Type 0} (turn : Turn Item) (items : List Item) (start :
   pub refusal : (error : AnalyzeError) → IsRefusal (λ accepts. turn.shapes accepts rest (columns_of made.visible)) error → IsRefusal (λ accepts. turn.shapes accepts items (columns_of start.visible)) error
   pub room : HasRoom (seen made) (length (flat_map turn.nodes rest))
 
-pub along_start : {Item : Type 0} (turn : Turn Item) (items : List Item) (start : Made) → HasRoom (seen start) (length (flat_map turn.nodes items)) → Along turn items start items start
-along_start turn items start room = record { written = refl; shape = refl; refusal = λ error refused. refused; room = room }
-
 item_room : {Item : Type 0} (turn : Turn Item) (item : Item) (rest : List Item) (writing : Writing) → HasRoom writing (length (flat_map turn.nodes (item ∷ rest)))
     → HasRoom writing (length (turn.nodes item) + length (flat_map turn.nodes rest))
 item_room turn item rest writing room = subst (HasRoom writing) (length-append (turn.nodes item) (flat_map turn.nodes rest)) room
-
-pub along_room : {Item : Type 0} (turn : Turn Item) (items : List Item) (start : Made) (item : Item) (rest : List Item) (made : Made) → Along turn items start (item ∷ rest) made
-    → HasRoom (seen made) (length (turn.nodes item))
-along_room turn items start item rest made along =
-    let room = item_room turn item rest (seen made) along.room in
-    record { shown = room.shown; columns = omega (arith, room.columns); whole = omega (arith, room.whole); free = omega (arith, room.free) }
 
 pub along_more : {Item : Type 0} (turn : Turn Item) (items : List Item) (start : Made) (item : Item) (rest : List Item) (made new : Made) → Along turn items start (item ∷ rest) made
     → (seen new ≡ turn.write (seen made) item) × (turn.shape is_accepted item (columns_of made.visible) ≡ Ok (columns_of new.visible)) → Along turn items start rest new
@@ -92,10 +83,6 @@ along_more turn items start item rest made new along writes =
           (refused_behind (λ accepts. turn.shape accepts item columns) (λ accepts. turn.shapes accepts rest) (columns_of new.visible) error (turn.stays item columns) writes.1 refused));
       room = subst (λ (writing : Writing). HasRoom writing (length (flat_map turn.nodes rest))) (sym writes.0) (turn.room item (seen made) _ (item_room turn item rest (seen made) along.room));
     }
-
-pub along_end : {Item : Type 0} (turn : Turn Item) (items : List Item) (start made : Made) → Along turn items start [] made
-    → (seen made ≡ fold turn.write (seen start) items) × (turn.shapes is_accepted items (columns_of start.visible) ≡ Ok (columns_of made.visible))
-along_end turn items start made along = (along.written, sym along.shape ∙ turn.none is_accepted (columns_of made.visible))
 
 pub along_refused : {Item : Type 0} (turn : Turn Item) (items : List Item) (start : Made) (item : Item) (rest : List Item) (made : Made) (error : AnalyzeError) → Along turn items start (item ∷ rest) made
     → IsRefusal (λ accepts. turn.shape accepts item (columns_of made.visible)) error → IsRefusal (λ accepts. turn.shapes accepts items (columns_of start.visible)) error

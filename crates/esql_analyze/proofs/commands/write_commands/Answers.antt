@@ -1,4 +1,4 @@
-use Rattle.std.proofs.Common.{List, fold, drop, ◌+◌, Result, Err, sym, subst}
+use Rattle.std.proofs.Common.{List, fold, drop, ◌+◌, Result, sym, subst}
 use Rattle.std.specs.List.{flat_map}
 use Rattle.esql_ast.specs.declared.query.Command.{Command}
 use Rattle.plan_semantics.specs.Plans.{columns_of}

@@ -1,4 +1,4 @@
-use Rattle.std.proofs.Common.{List, drop, ◌+◌, Result, Err, sym, subst}
+use Rattle.std.proofs.Common.{List, drop, ◌+◌, Result, sym, subst}
 use Rattle.std.specs.List.{flat_map}
 use Rattle.esql_ast.specs.declared.query.Field.{Field}
 use Rattle.plan_semantics.specs.Plans.{columns_of}

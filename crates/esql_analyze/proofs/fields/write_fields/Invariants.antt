@@ -1,7 +1,6 @@
 use Rattle.std.proofs.Common.{drop}
 use Rattle.expression_analysis.specs.Answers.{IsUntouched}
 use Rattle.esql_analyze.proofs.Turns.{Along, fields_turn}
-use Rattle.esql_analyze.proofs.Heard.{heard_more}
 use Rattle.esql_analyze.proofs.fields.write_fields.Given as goal
 
 abbrev pub invariant-loop-field : goal.invariant-loop-field

@@ -7,7 +7,7 @@ use Rattle.query_semantics.specs.Written.{source_in_plan, write_fields, write_so
 use Rattle.esql_analyze.specs.Contexts.{over, over_catalog}
 use Rattle.esql_analyze.specs.Plans.{Begins, tables_in_plan, write_tables}
 use Rattle.esql_analyze.specs.Regulars.{regulars_of_source}
-use Rattle.esql_analyze.proofs.SourceWrites.{tables_hear, row_over}
+use Rattle.esql_analyze.proofs.SourceWrites.{tables_hear}
 use Rattle.esql_analyze.proofs.source.write_source.Goals as goal
 
 pub returns-in-Tables-clause-hears : goal.returns-in-Tables-clause-hears
@@ -25,4 +25,4 @@ returns-in-OneRow-clause-begins g c =
     let begins = subst (λ (fields : List Field). Begins (λ accepts. shape_of_fields (over text accepts) fields []) OneRow (write_fields text fields (writing_of_columns [])) result) c.as_slice-in-OneRow.ensures
     c.from_row.ensures.begins in
     subst (λ (command : SourceCommand). Begins (λ accepts. shape_of_source (over_catalog text catalog accepts) command) (source_in_plan catalog command) (write_source text catalog command) result) (sym c.in-OneRow.is)
-    (row_over text catalog c.in-OneRow.node c.in-OneRow.span c.in-OneRow.fields result begins)
+    begins
