@@ -7,6 +7,8 @@ use Rattle.esql_types.specs.declared.names.NodeId.{NodeId}
 use Rattle.esql_types.specs.declared.value.Kind.{Kind}
 use Rattle.esql_types.specs.declared.value.Kind.TheVariants as kind
 use Rattle.esql_types.specs.Counts.{Rose}
+use Rattle.esql_types.specs.declared.maker.PatternError.{PatternError}
+use Rattle.esql_types.specs.declared.maker.PatternError.TheVariants as pattern_error
 use Rattle.esql_types.specs.declared.value.Value.TheVariants.{Text}
 use Rattle.esql_ast.specs.declared.expr.Expr.{Expr}
 use Rattle.esql_ast.specs.declared.expr.Form.TheOpen.{Constant}
@@ -179,6 +181,26 @@ own_free function spans literal = free_of function (parts_at spans literal)
 abbrev pub own_regulars : Function → List Span → Option (List ℕ) → List Regular
 own_regulars function spans literal = regulars_in_option (regular_of function (parts_at spans literal))
 
+-- the answer of a pattern that was not built
+abbrev pub refusal_of : PatternError → Span → AnalyzeError
+refusal_of pattern_error.NotRead span = error.Broken BadRegex span
+refusal_of pattern_error.TooLarge span = error.PatternRoom span
+refusal_of (pattern_error.Memory memory) span = error.Memory memory
+
+-- a regular expression is read, and these patterns are added
+pub record IsRead (regular : Regular) (whole free : List (List ℕ)) (old new : Patterns) : Type 0 where
+  pub accepted : is_accepted regular ≡ true
+  pub wholes_are : new.whole ≡ old.whole ++ whole
+  pub frees_are : new.free ≡ old.free ++ free
+
+-- a regular expression, where it is accepted
+abbrev pub if_read : Option Regular → Judgement Kind
+if_read found accepts = if_accepted found (scope_of accepts []) kind.Null
+
+abbrev pub IsReading : {U : Type 0} → Regular → List (List ℕ) → List (List ℕ) → Patterns → Patterns → Marks → Marks → Result U AnalyzeError → Type 0
+IsReading regular whole free old new before after (Ok unit) = IsRead regular whole free old new × (after ≡ before)
+IsReading regular whole free old new before after (Err error) = IsErrorOf (if_read (Some regular)) (regular ∷ []) before after error
+
 -- a function's own pattern is read, and has its number
 pub record IsPatternRead (function : Function) (spans : List Span) (literal : Option (List ℕ)) (old new : Patterns) (number : Option ℕ) : Type 0 where
   pub is : HasRoom old (own_whole function spans literal) (own_free function spans literal) → number ≡ pattern_number function (length old.whole) (length old.free)
@@ -186,14 +208,10 @@ pub record IsPatternRead (function : Function) (spans : List Span) (literal : Op
   pub whole : new.whole ≡ old.whole ++ own_whole function spans literal
   pub free : new.free ≡ old.free ++ own_free function spans literal
 
--- the function's own regular expression, or that it has none, where it is accepted
-abbrev pub own_accepted : Function → List Span → Option (List ℕ) → Judgement Kind
-own_accepted function spans literal accepts = if_accepted (regular_of function (parts_at spans literal)) (scope_of accepts []) kind.Null
-
 abbrev pub IsPatternAnswer : Function → List Span → Option (List ℕ) → Patterns → Patterns → Marks → Marks → Result (Option ℕ) AnalyzeError → Type 0
 IsPatternAnswer function spans literal old new before after (Ok number) = IsPatternRead function spans literal old new number × (after ≡ before)
 IsPatternAnswer function spans literal old new before after (Err error) =
-    IsErrorOf (own_accepted function spans literal) (own_regulars function spans literal) before after error
+    IsErrorOf (if_read (regular_of function (parts_at spans literal))) (own_regulars function spans literal) before after error
 
 -- a function of typed parts
 pub record IsCompleted (node : NodeId) (function : Function) (parts : Parts) (literal : Option (List ℕ)) (span : Span) (old new : Patterns) (typed : TypedExpr) : Type 0 where

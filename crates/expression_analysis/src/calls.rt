@@ -11,12 +11,13 @@ use crate::parts::Parts;
 use crate::patterns::read_pattern;
 use esql_plan::{Function, FunctionRow, TypedExpr, TypedForm};
 use esql_types::{Kind, Maker, NodeId, Seq, Span};
-use crate::signatures::{kind_of_call, misfit};
+use function_signatures::{kind_of_call, misfit};
 use row_semantics::NameRule;
 use std::alloc::{AllocError, Global};
 use text_match::Patterns;
 
 /// A function of typed parts, of which the second is the literal: each has to fit, and then its regular expression is read.
+#[tactic(none)]
 pub(crate) fn completed<M: Maker>(
     alloc: Global,
     node: NodeId,

@@ -5,6 +5,7 @@ ghost use Rattle.row_semantics.specs.Kinds.{kind_or_rule, judged};
 ghost use Rattle.row_semantics.specs.Regulars.{is_accepted};
 ghost use Rattle.row_semantics.specs.Typed.{typing, typing_of, typed_of};
 ghost use Rattle.expression_analysis.specs.Answers.{visible_of, scope_of, regulars_in, regulars_of_expr, IsRefusal, IsTold, IsQuiet};
+ghost use Rattle.expression_analysis.specs.Calls.{FewAreTaken};
 ghost use Rattle.expression_analysis.specs.Steps.{marks_of, readings_of, readings_at, applied_to, typings, judgeds, regular_parts, pattern_expr, IsAnswer, AreAnswer};
 
 use crate::AnalyzeError;
@@ -12,7 +13,7 @@ use crate::calls::{completed, takes};
 use crate::columns::typed_column;
 use crate::constants::{typed_constant, typed_list};
 use crate::parts::{Parts, literal_at, literal_of};
-use esql_ast::{BinaryOp, Expr, Form, NameAt, TextAt};
+use esql_ast::{BinaryOp, Expr, Form, NameAt, NodeAt, TextAt};
 use esql_plan::{
     Function, FunctionRow, OutColumn, TypedExpr, cast_function, find_aggregate, find_function,
 };
@@ -27,6 +28,7 @@ use text_match::Patterns;
 /// # Errors
 /// The first rule that the expression breaks; a regular expression that is too large to be built; want of memory. After an
 /// error the patterns may be more than before.
+#[tactic(none)]
 pub fn typed_expr<M: Maker>(
     alloc: Global,
     expr: &Expr,
@@ -49,6 +51,7 @@ pub fn typed_expr<M: Maker>(
 }
 
 #[cycle(typed)]
+#[tactic(none)]
 fn typed<M: Maker>(
     alloc: Global,
     expr: &Expr,
@@ -58,6 +61,10 @@ fn typed<M: Maker>(
 ) -> Result<TypedExpr, AnalyzeError>
     ensures { IsAnswer (readings_of expr.now) columns.now patterns.old patterns.new (marks_of M.refused M.last maker.old) (marks_of M.refused M.last maker.new) result }
 {
+    let at = NodeAt {
+        node: expr.node,
+        span: expr.span,
+    };
     match &expr.form {
         Form::Constant { cell, .. } => typed_constant(alloc, expr.node, expr.span, cell.as_slice()),
         Form::List { values } => typed_list(alloc, expr.node, expr.span, values.as_slice()),
@@ -67,17 +74,17 @@ fn typed<M: Maker>(
             function,
             args,
             star,
-        } => call(alloc, expr, function, args, *star, columns, patterns, maker),
-        Form::Minus { arg } => unary(alloc, expr, Function::Neg, arg, columns, patterns, maker),
-        Form::Not { arg } => unary(alloc, expr, Function::Not, arg, columns, patterns, maker),
+        } => call(alloc, at, function, args, *star, columns, patterns, maker),
+        Form::Minus { arg } => unary(alloc, at, Function::Neg, arg, columns, patterns, maker),
+        Form::Not { arg } => unary(alloc, at, Function::Not, arg, columns, patterns, maker),
         Form::Binary { op, left, right } => {
-            binary(alloc, expr, *op, left, right, columns, patterns, maker)
+            binary(alloc, at, *op, left, right, columns, patterns, maker)
         }
         Form::Within {
             negated,
             left,
             items,
-        } => within(alloc, expr, *negated, left, items, columns, patterns, maker),
+        } => within(alloc, at, *negated, left, items, columns, patterns, maker),
         Form::Like {
             negated,
             regex,
@@ -85,18 +92,19 @@ fn typed<M: Maker>(
             pattern,
         } => {
             let function = like_function(*negated, *regex);
-            like(alloc, expr, function, left, pattern, columns, patterns, maker)
+            like(alloc, at, function, left, pattern, columns, patterns, maker)
         }
         Form::IsNull { negated, arg } => {
             let function = null_function(*negated);
-            unary(alloc, expr, function, arg, columns, patterns, maker)
+            unary(alloc, at, function, arg, columns, patterns, maker)
         }
-        Form::Cast { arg, kind } => cast(alloc, expr, arg, kind, columns, patterns, maker),
+        Form::Cast { arg, kind } => cast(alloc, at, arg, kind, columns, patterns, maker),
     }
 }
 
 /// Adds the typed form of an expression to parts.
 #[cycle(typed)]
+#[tactic(none)]
 fn add<M: Maker>(
     alloc: Global,
     expr: &Expr,
@@ -114,6 +122,7 @@ fn add<M: Maker>(
 
 /// Adds the typed forms of expressions to parts, from the left.
 #[cycle(typed)]
+#[tactic(none)]
 fn add_all<M: Maker>(
     alloc: Global,
     exprs: &[Expr],
@@ -131,26 +140,28 @@ fn add_all<M: Maker>(
 }
 
 #[cycle(typed)]
+#[tactic(none)]
 fn unary<M: Maker>(
     alloc: Global,
-    expr: &Expr,
+    at: NodeAt,
     function: Function,
     arg: &Boxed<Expr>,
     columns: &[OutColumn],
     patterns: &mut Patterns,
     maker: &mut M,
 ) -> Result<TypedExpr, AnalyzeError>
-    ensures { IsAnswer (applied_to expr.now.node expr.now.span function (arg.now ∷ [])) columns.now patterns.old patterns.new (marks_of M.refused M.last maker.old) (marks_of M.refused M.last maker.new) result }
+    ensures { IsAnswer (applied_to at.node at.span function (arg.now ∷ [])) columns.now patterns.old patterns.new (marks_of M.refused M.last maker.old) (marks_of M.refused M.last maker.new) result }
 {
     let mut parts = Parts::new(alloc);
     add(alloc, arg.get(), columns, &mut parts, patterns, maker)?;
-    completed(alloc, expr.node, expr.span, function, parts, None, patterns, maker)
+    completed(alloc, at.node, at.span, function, parts, None, patterns, maker)
 }
 
 #[cycle(typed)]
+#[tactic(none)]
 fn binary<M: Maker>(
     alloc: Global,
-    expr: &Expr,
+    at: NodeAt,
     op: BinaryOp,
     left: &Boxed<Expr>,
     right: &Boxed<Expr>,
@@ -158,19 +169,20 @@ fn binary<M: Maker>(
     patterns: &mut Patterns,
     maker: &mut M,
 ) -> Result<TypedExpr, AnalyzeError>
-    ensures { IsAnswer (applied_to expr.now.node expr.now.span (function_of op) (left.now ∷ right.now ∷ [])) columns.now patterns.old patterns.new (marks_of M.refused M.last maker.old) (marks_of M.refused M.last maker.new) result }
+    ensures { IsAnswer (applied_to at.node at.span (function_of op) (left.now ∷ right.now ∷ [])) columns.now patterns.old patterns.new (marks_of M.refused M.last maker.old) (marks_of M.refused M.last maker.new) result }
 {
     let mut parts = Parts::new(alloc);
     add(alloc, left.get(), columns, &mut parts, patterns, maker)?;
     add(alloc, right.get(), columns, &mut parts, patterns, maker)?;
     let literal = literal_of(right.get());
-    completed(alloc, expr.node, expr.span, function_of(op), parts, literal, patterns, maker)
+    completed(alloc, at.node, at.span, function_of(op), parts, literal, patterns, maker)
 }
 
 #[cycle(typed)]
+#[tactic(none)]
 fn within<M: Maker>(
     alloc: Global,
-    expr: &Expr,
+    at: NodeAt,
     negated: bool,
     left: &Boxed<Expr>,
     items: &Seq<Expr>,
@@ -178,21 +190,22 @@ fn within<M: Maker>(
     patterns: &mut Patterns,
     maker: &mut M,
 ) -> Result<TypedExpr, AnalyzeError>
-    ensures { IsAnswer (applied_to expr.now.node expr.now.span (if negated then Function.NotIn else Function.In) (left.now ∷ items.now)) columns.now patterns.old patterns.new (marks_of M.refused M.last maker.old) (marks_of M.refused M.last maker.new) result }
+    ensures { IsAnswer (applied_to at.node at.span (if negated then Function.NotIn else Function.In) (left.now ∷ items.now)) columns.now patterns.old patterns.new (marks_of M.refused M.last maker.old) (marks_of M.refused M.last maker.new) result }
 {
     let mut parts = Parts::new(alloc);
     add(alloc, left.get(), columns, &mut parts, patterns, maker)?;
     add_all(alloc, items.as_slice(), columns, &mut parts, patterns, maker)?;
     let function = if negated { Function::NotIn } else { Function::In };
     let literal = literal_at(items.as_slice(), 0);
-    completed(alloc, expr.node, expr.span, function, parts, literal, patterns, maker)
+    completed(alloc, at.node, at.span, function, parts, literal, patterns, maker)
 }
 
 /// LIKE or RLIKE, whose pattern is a constant of the operator's node.
 #[cycle(typed)]
+#[tactic(none)]
 fn like<M: Maker>(
     alloc: Global,
-    expr: &Expr,
+    at: NodeAt,
     function: Function,
     left: &Boxed<Expr>,
     pattern: &TextAt,
@@ -200,33 +213,34 @@ fn like<M: Maker>(
     patterns: &mut Patterns,
     maker: &mut M,
 ) -> Result<TypedExpr, AnalyzeError>
-    ensures { IsAnswer (applied_to expr.now.node expr.now.span function (left.now ∷ pattern_expr expr.now.node pattern.now ∷ [])) columns.now patterns.old patterns.new (marks_of M.refused M.last maker.old) (marks_of M.refused M.last maker.new) result }
+    ensures { IsAnswer (applied_to at.node at.span function (left.now ∷ pattern_expr at.node pattern.now ∷ [])) columns.now patterns.old patterns.new (marks_of M.refused M.last maker.old) (marks_of M.refused M.last maker.new) result }
 {
     let mut parts = Parts::new(alloc);
     add(alloc, left.get(), columns, &mut parts, patterns, maker)?;
-    parts.push_pattern(alloc, expr.node, pattern)?;
+    parts.push_pattern(alloc, at.node, pattern)?;
     let literal = Some(pattern.text.as_str());
-    completed(alloc, expr.node, expr.span, function, parts, literal, patterns, maker)
+    completed(alloc, at.node, at.span, function, parts, literal, patterns, maker)
 }
 
 /// A conversion to the kind of a name; a name that is no kind is refused behind what the argument breaks itself.
 #[cycle(typed)]
+#[tactic(none)]
 fn cast<M: Maker>(
     alloc: Global,
-    expr: &Expr,
+    at: NodeAt,
     arg: &Boxed<Expr>,
     kind: &NameAt,
     columns: &[OutColumn],
     patterns: &mut Patterns,
     maker: &mut M,
 ) -> Result<TypedExpr, AnalyzeError>
-    ensures { IsAnswer (readings_at expr.now.node expr.now.span (cast_by (cast_named kind.now.name) (part_of typing arg.now) kind.now.span) (cast_by (cast_named kind.now.name) (part_of judged arg.now) kind.now.span) (cast_by (cast_named kind.now.name) (part_of regulars_in arg.now) kind.now.span)) columns.now patterns.old patterns.new (marks_of M.refused M.last maker.old) (marks_of M.refused M.last maker.new) result }
+    ensures { IsAnswer (readings_at at.node at.span (cast_by (cast_named kind.now.name) (part_of typing arg.now) kind.now.span) (cast_by (cast_named kind.now.name) (part_of judged arg.now) kind.now.span) (cast_by (cast_named kind.now.name) (part_of regulars_in arg.now) kind.now.span)) columns.now patterns.old patterns.new (marks_of M.refused M.last maker.old) (marks_of M.refused M.last maker.new) result }
 {
     let mut parts = Parts::new(alloc);
     add(alloc, arg.get(), columns, &mut parts, patterns, maker)?;
     match cast_function(kind.name.as_str()) {
         Some(function) => {
-            completed(alloc, expr.node, expr.span, function, parts, None, patterns, maker)
+            completed(alloc, at.node, at.span, function, parts, None, patterns, maker)
         }
         None => broken(NameRule::BadKind, kind.span),
     }
@@ -235,9 +249,10 @@ fn cast<M: Maker>(
 /// A call. A name that is no function is refused before its arguments are looked at, and so is an aggregate, which stands in
 /// STATS alone, and another number of arguments than the function takes.
 #[cycle(typed)]
+#[tactic(none)]
 fn call<M: Maker>(
     alloc: Global,
-    expr: &Expr,
+    at: NodeAt,
     function: &NameAt,
     args: &Seq<Expr>,
     star: bool,
@@ -245,20 +260,21 @@ fn call<M: Maker>(
     patterns: &mut Patterns,
     maker: &mut M,
 ) -> Result<TypedExpr, AnalyzeError>
-    ensures { IsAnswer (readings_at expr.now.node expr.now.span (call_by (function_named function.now.name) (aggregate_named function.now.name) function.now.span star (typings args.now) expr.now.span) (call_by (function_named function.now.name) (aggregate_named function.now.name) function.now.span star (judgeds args.now) expr.now.span) (call_by (function_named function.now.name) (aggregate_named function.now.name) function.now.span star (regular_parts args.now) expr.now.span)) columns.now patterns.old patterns.new (marks_of M.refused M.last maker.old) (marks_of M.refused M.last maker.new) result }
+    ensures { IsAnswer (readings_at at.node at.span (call_by (function_named function.now.name) (aggregate_named function.now.name) function.now.span star (typings args.now) at.span) (call_by (function_named function.now.name) (aggregate_named function.now.name) function.now.span star (judgeds args.now) at.span) (call_by (function_named function.now.name) (aggregate_named function.now.name) function.now.span star (regular_parts args.now) at.span)) columns.now patterns.old patterns.new (marks_of M.refused M.last maker.old) (marks_of M.refused M.last maker.new) result }
 {
     let name = function.name.as_str();
     match (find_function(name), find_aggregate(name)) {
-        (Some(row), _) => call_of(alloc, expr, row, args, star, columns, patterns, maker),
-        (None, Some(_)) => broken(NameRule::NestedAggregate, expr.span),
+        (Some(row), _) => call_of(alloc, at, row, args, star, columns, patterns, maker),
+        (None, Some(_)) => broken(NameRule::NestedAggregate, at.span),
         (None, None) => broken(NameRule::UnknownFunction, function.span),
     }
 }
 
 #[cycle(typed)]
+#[tactic(none)]
 fn call_of<M: Maker>(
     alloc: Global,
-    expr: &Expr,
+    at: NodeAt,
     row: FunctionRow,
     args: &Seq<Expr>,
     star: bool,
@@ -266,15 +282,16 @@ fn call_of<M: Maker>(
     patterns: &mut Patterns,
     maker: &mut M,
 ) -> Result<TypedExpr, AnalyzeError>
-    ensures { IsAnswer (readings_at expr.now.node expr.now.span (call_of row star (typings args.now) expr.now.span) (call_of row star (judgeds args.now) expr.now.span) (call_of row star (regular_parts args.now) expr.now.span)) columns.now patterns.old patterns.new (marks_of M.refused M.last maker.old) (marks_of M.refused M.last maker.new) result }
+    requires { FewAreTaken row }
+    ensures { IsAnswer (readings_at at.node at.span (call_of row star (typings args.now) at.span) (call_of row star (judgeds args.now) at.span) (call_of row star (regular_parts args.now) at.span)) columns.now patterns.old patterns.new (marks_of M.refused M.last maker.old) (marks_of M.refused M.last maker.new) result }
 {
     if star || !takes(row, args.len()) {
-        return broken(NameRule::BadArguments, expr.span);
+        return broken(NameRule::BadArguments, at.span);
     }
     let mut parts = Parts::new(alloc);
     add_all(alloc, args.as_slice(), columns, &mut parts, patterns, maker)?;
     let literal = literal_at(args.as_slice(), 1);
-    completed(alloc, expr.node, expr.span, row.function, parts, literal, patterns, maker)
+    completed(alloc, at.node, at.span, row.function, parts, literal, patterns, maker)
 }
 
 fn broken(rule: NameRule, span: Span) -> Result<TypedExpr, AnalyzeError>

@@ -10,7 +10,6 @@ mod error;
 mod expression;
 mod parts;
 mod patterns;
-mod signatures;
 
 pub use error::AnalyzeError;
 pub use expression::typed_expr;

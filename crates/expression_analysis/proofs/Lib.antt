@@ -1,0 +1,9 @@
+pub mod Answered
+pub mod Completed
+pub mod Judgements
+pub mod Leaves
+pub mod PartsTyped
+pub mod Regexes
+pub mod Seens
+pub mod Shown
+pub mod Words

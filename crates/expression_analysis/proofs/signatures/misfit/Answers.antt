@@ -1,4 +1,0 @@
-use Rattle.expression_analysis.proofs.signatures.misfit.Goals as goal
-
-pub returns : goal.returns
-returns c = ?
