@@ -19,8 +19,8 @@ use Rattle.expression_analysis.specs.declared.error.AnalyzeError.{AnalyzeError}
 use Rattle.expression_analysis.specs.declared.parts.Parts.{Parts}
 use Rattle.expression_analysis.specs.Answers.{visible_of, scope_of, regulars_in, regulars_in_option, regulars_of_parts}
 use Rattle.expression_analysis.specs.Calls.{parts_at, second_literal, own_kind, takes_few, FewAreTaken}
-use Rattle.expression_analysis.specs.Steps.{Marks, Judgement, Gives, IsErrorOf, HasRoom, IsTyped, IsAnswer, applied_to, literal_of_expr, typings, judgeds, regular_parts, wholes, frees, kinds_in, kinds_judgement, AreTyped, own_whole, own_free, own_regulars, IsCompleted, IsCompletion}
-use Rattle.expression_analysis.proofs.Judgements.{gives_same, gives_next, error_same, error_next}
+use Rattle.expression_analysis.specs.Steps.{Marks, Judgement, Gives, IsErrorOf, HasRoom, IsTyped, IsAnswer, judgement_over, applied_to, literal_of_expr, typings, judgeds, regular_parts, wholes, frees, kinds_in, kinds_judgement, AreTyped, own_whole, own_free, own_regulars, IsCompleted, IsCompletion}
+use Rattle.expression_analysis.proofs.Judgements.{gives_same, gives_next, error_same, error_first, error_next}
 use Rattle.expression_analysis.proofs.PartsTyped.{room_first, room_next, room_same, grown, counted}
 use Rattle.expression_analysis.proofs.Seens.{own_span, literal_same, literal_quiet}
 use Rattle.expression_analysis.proofs.Shown.{spans_of, function_shown, wrong_shown, regular_shown, whole_shown, free_shown, own_shown}
@@ -170,3 +170,13 @@ module _ (columns : List OutColumn) (exprs : List Expr) (node : NodeId) (span : 
       before between after error typed.gives same
       (subst (λ (these : List Regular). IsErrorOf (next_kind (kinds_in typed.added)) these between after error) regulars_are
       (error_same Kind (own_kind written parts.spans literal (kinds_in parts.args) span) (next_kind (kinds_in typed.added)) kind_is (own_regulars written parts.spans literal) between after error is))
+
+-- errors of the parts ------------------------------------------------------------------------------------------------------------------
+
+-- an error of the parts is one of the node
+pub parts_error : (columns : List OutColumn) (exprs : List Expr) (node : NodeId) (span : Span) (written : Function) (before after : Marks) (error : AnalyzeError)
+    → IsErrorOf (kinds_judgement columns exprs) (regulars_of_parts (regular_parts exprs)) before after error
+    → IsErrorOf (judgement_over columns (applied_to node span written exprs).judged) (applied_to node span written exprs).regulars before after error
+parts_error columns exprs node span written before after error is =
+    error_first (List Kind) Kind (kinds_judgement columns exprs) (λ kinds accepts. kind_of_applied written (judgeds exprs) kinds span (scope_of accepts columns)) (regulars_of_parts (regular_parts exprs))
+    (regulars_in_option (regular_of written (regular_parts exprs))) before after error is

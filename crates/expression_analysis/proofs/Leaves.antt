@@ -25,12 +25,12 @@ use Rattle.expression_analysis.specs.Answers.{visible_of, regulars_in}
 use Rattle.expression_analysis.specs.Steps.{Marks, Gives, IsTyped, IsAnswer, Readings, readings_at, judgement_over, IsPlainAnswer, constant_or_rule, column_or_rule}
 use Rattle.expression_analysis.proofs.Judgements.{gives_all}
 
-ok_same : (made typed : TypedExpr) → Ok {E = Broken} made ≡ Ok typed → made ≡ typed
+ok_same : (made typed : TypedExpr) → ◌≡◌ {A = Result TypedExpr Broken} (Ok made) (Ok typed) → made ≡ typed
 ok_same made typed is = cc
 
 -- the same refusal of a kind
-err_same : (broken other : Broken) → Err {T = TypedExpr} broken ≡ Err other → Err {T = Kind} broken ≡ Err other
-err_same broken other is = let same : broken ≡ other = cc in ap (λ (these : Broken). Err {T = Kind} these) same
+err_same : (broken other : Broken) → ◌≡◌ {A = Result TypedExpr Broken} (Err broken) (Err other) → ◌≡◌ {A = Result Kind Broken} (Err broken) (Err other)
+err_same broken other is = let same : broken ≡ other = cc in λ i. Err (same i)
 
 abbrev seen_column : OutColumn → NamedColumn
 seen_column column = record { name = column.name; kind = column.kind }

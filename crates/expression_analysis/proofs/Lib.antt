@@ -1,8 +1,11 @@
 pub mod Answered
+pub mod Calls
 pub mod Completed
 pub mod Judgements
 pub mod Leaves
 pub mod PartsTyped
+pub mod Patterns
+pub mod Placed
 pub mod Regexes
 pub mod Seens
 pub mod Shown

@@ -1,7 +1,7 @@
 -- Parts that are typed one behind another.
-use Rattle.std.proofs.Common.{◌≡◌, ℕ, Bool, ◌+◌, ◌≤◌, List, [], ◌∷◌, ◌++◌, map, length, Result, Ok, Err, refl, ap, sym, subst, ◌∙◌, arith, append_assoc, length-append}
+use Rattle.std.proofs.Common.{◌≡◌, ℕ, Bool, ◌+◌, ◌<◌, ◌≤◌, List, [], ◌∷◌, ◌++◌, map, length, take, drop, get_or, add-one, drop-cons, Result, Ok, Err, refl, ap, sym, subst, ◌∙◌, arith, append_assoc, length-append}
 use Rattle.std.specs.List.{flat_map}
-use Rattle.std.proofs.lemmas.List.{map-append, append-nil}
+use Rattle.std.proofs.lemmas.List.{map-append, append-nil, take_more, take-append-drop}
 use Rattle.std.proofs.lemmas.Grind.{flat_map-append}
 use Rattle.esql_types.specs.declared.places.Span.{Span}
 use Rattle.esql_types.specs.declared.value.Kind.{Kind}
@@ -103,7 +103,7 @@ longer start xs ys = omega (arith, length-append xs ys)
 no_more : (start : ℕ) → start ≡ start + 0
 no_more start = omega arith
 
-counted : (old new more : List (List ℕ)) → new ≡ old ++ more → length new ≡ length old + length more
+pub counted : (old new more : List (List ℕ)) → new ≡ old ++ more → length new ≡ length old + length more
 counted old new more is = omega (arith, ap length is, length-append old more)
 
 typed_append : (xs ys : List (Part Typing)) (visible : Visible) (whole free : ℕ)
@@ -135,7 +135,7 @@ room_same patterns whole other_whole free other_free same_whole same_free room =
   free_fits = omega (arith, room.free_fits, ap length same_free);
 }
 
-grown : (old middle new xs ys : List (List ℕ)) → middle ≡ old ++ xs → new ≡ middle ++ ys → new ≡ old ++ (xs ++ ys)
+pub grown : (old middle new xs ys : List (List ℕ)) → middle ≡ old ++ xs → new ≡ middle ++ ys → new ≡ old ++ (xs ++ ys)
 grown old middle new xs ys first next = next ∙ ap (λ (these : List (List ℕ)). these ++ ys) first ∙ append_assoc old xs ys
 
 pub typed_both : (columns : List OutColumn) (xs ys : List Expr) (parts next last : Parts) (old middle new : Patterns)
@@ -183,3 +183,26 @@ pub error_one : (columns : List OutColumn) (expr : Expr) (before after : Marks) 
     → IsErrorOf (kinds_judgement columns (expr ∷ [])) (regulars_of_parts (regular_parts (expr ∷ []))) before after error
 error_one columns expr before after error is =
     error_first Kind (List Kind) (judgement_over columns (readings_of expr).judged) alone (readings_of expr).regulars [] before after error is
+
+-- no part ------------------------------------------------------------------------------------------------------------------------------
+
+pub typed_none : (columns : List OutColumn) (parts : Parts) (patterns : Patterns) → AreTyped columns [] parts parts patterns patterns
+typed_none columns parts patterns = record {
+  added = [];
+  args = sym (append-nil parts.args);
+  spans = sym (append-nil parts.spans);
+  are = λ room. refl;
+  gives = gives_all (List Kind) [];
+  whole = sym (append-nil patterns.whole);
+  free = sym (append-nil patterns.free);
+}
+
+-- expressions in turn --------------------------------------------------------------------------------------------------------------------
+
+pub taken_more : (exprs : List Expr) (place : ℕ) (expr : Expr) → place < length exprs → expr ≡ get_or exprs place expr → take (place + 1) exprs ≡ take place exprs ++ expr ∷ []
+taken_more exprs place expr within is = take_more exprs place expr within ∙ ap (λ (next : Expr). take place exprs ++ next ∷ []) (sym is)
+
+pub cut_at : (exprs : List Expr) (place : ℕ) (expr : Expr) → place < length exprs → expr ≡ get_or exprs place expr → take place exprs ++ (expr ∷ drop (place + 1) exprs) ≡ exprs
+cut_at exprs place expr within is =
+    ap (λ (rest : List Expr). take place exprs ++ rest) (sym (drop-cons exprs place expr within ∙ (λ i. sym is i ∷ drop (sym (add-one place) i) exprs)))
+    ∙ take-append-drop place exprs

@@ -4,7 +4,9 @@ use Rattle.std.specs.Prelude.{unwrap_or, slice_get, IfSome, IsSomeAnd, if◌then
 use Rattle.std.specs.Str.{chars}
 use Rattle.std.proofs.lemmas.Bool.Decides.{nat_tests}
 use Rattle.std.proofs.lemmas.List.{append-nil}
-use Rattle.regex_syntax.specs.Grammar.{read}
+use Rattle.regex_hir.specs.Meaning.{meaning}
+use Rattle.regex_syntax.specs.Captures.{SameCaptures}
+use Rattle.regex_syntax.specs.Grammar.{read, group_count}
 use Rattle.regex_syntax.specs.Verdict.{default_config, Reads}
 use Rattle.esql_types.specs.Counts.{Rose}
 use Rattle.esql_types.specs.Patterns.{IsReadable, IsUnreadable}
@@ -36,7 +38,7 @@ beyond depth limit is = grind (arith, nat_tests)
 pub readable : (text : List ℕ) → IsReadable text → is_readable text ≡ true
 unfolding Reads
 readable text is =
-    elim (read default_config (chars text)) as (λ told. IsSomeAnd told (λ (tree, found). (tree.depth ≤ default_config.nest_limit) × _ × _ × _) → unwrap_or (option_map (λ (tree, _). nat_le tree.depth default_config.nest_limit) told) false ≡ true)
+    elim (read default_config (chars text)) as (λ told. IsSomeAnd told (λ (tree, found). (tree.depth ≤ default_config.nest_limit) × SameCaptures (meaning is.0) tree.value × (is.1 ≡ found) × (group_count (meaning is.0) ≤ length is.1)) → unwrap_or (option_map (λ (tree, _). nat_le tree.depth default_config.nest_limit) told) false ≡ true)
     [ None ↦ λ none. absurd none | Some made ↦ λ some. within made.0.depth default_config.nest_limit some.0 ] is.2
 
 pub unreadable : (text : List ℕ) → IsUnreadable text → is_readable text ≡ false
@@ -55,7 +57,7 @@ both : (first next : Bool) → first ≡ true → next ≡ true → first && nex
 both first next is also = (λ i. is i && also i)
 
 either : (first next : Bool) → (first ≡ false) ⊎ (next ≡ false) → first && next ≡ false
-either true next (inl is) = is
+either true next (inl is) = absurd cc
 either false next (inl is) = refl
 either true next (inr is) = is
 either false next (inr is) = refl
@@ -84,18 +86,21 @@ not_there accepted span = either accepted (not (same_span span span)) (inr (ap n
 refused_by : (regular : Regular) (accepts : Regular → Bool) → accepts regular ≡ false → if_read (Some regular) accepts ≡ breaks BadRegex regular.span
 refused_by regular accepts is = ap (λ (accepted : Bool). if accepted then Ok kind.Null else breaks BadRegex regular.span) is
 
-marks_same : (before after : Marks) → after.count ≡ before.count → after.last ≡ before.last → after ≡ before
+pub marks_same : (before after : Marks) → after.count ≡ before.count → after.last ≡ before.last → after ≡ before
 marks_same before after count last = λ i. record { count = count i; last = last i }
+
+abbrev pub IsErr : (T : Type 0) → PatternError → PatternError → Type 0
+IsErr T error other = ◌≡◌ {A = Result T PatternError} (Err error) (Err other)
 
 -- what a maker tells of a pattern that was not built
 pub record Tells (T : Type 0) (error : PatternError) (before after : Marks) : Type 0 where
-  pub rose : Err {T = T} error ≡ Err TooLarge → Rose before.count after.count
+  pub rose : IsErr T error TooLarge → Rose before.count after.count
   pub count : before.count ≤ after.count
-  pub kept : (Err {T = T} error ≡ Err TooLarge → ⊥) → after.last ≡ before.last
-  pub uncounted : (Err {T = T} error ≡ Err TooLarge → ⊥) → after.count ≡ before.count
+  pub kept : (IsErr T error TooLarge → ⊥) → after.last ≡ before.last
+  pub uncounted : (IsErr T error TooLarge → ⊥) → after.count ≡ before.count
 
 refused_error : (T : Type 0) (regular : Regular) (error : PatternError) (before after : Marks) → Tells T error before after
-    → (Err {T = T} error ≡ Err NotRead → is_accepted regular ≡ false) → (Err {T = T} error ≡ Err TooLarge → IsNoted regular regular.span after.last)
+    → (IsErr T error NotRead → is_accepted regular ≡ false) → (IsErr T error TooLarge → IsNoted regular regular.span after.last)
     → IsErrorOf (if_read (Some regular)) (regular ∷ []) before after (refusal_of error regular.span)
 refused_error T regular NotRead before after tells unread noted =
     (refused_by regular is_accepted (unread refl), marks_same before after (tells.uncounted (λ is. cc)) (tells.kept (λ is. cc)))
@@ -106,7 +111,7 @@ refused_error T regular TooLarge before after tells unread noted = (
 refused_error T regular (Memory memory) before after tells unread noted = marks_same before after (tells.uncounted (λ is. cc)) (tells.kept (λ is. cc))
 
 pub whole_error : (T : Type 0) (span : Span) (text : List ℕ) (error : PatternError) (before after : Marks) → Tells T error before after
-    → (Err {T = T} error ≡ Err NotRead → IsUnreadable text ⊎ IsUnreadable (wrapped text)) → (Err {T = T} error ≡ Err TooLarge → (after.last ≡ text) ⊎ (after.last ≡ wrapped text))
+    → (IsErr T error NotRead → IsUnreadable text ⊎ IsUnreadable (wrapped text)) → (IsErr T error TooLarge → (after.last ≡ text) ⊎ (after.last ≡ wrapped text))
     → IsErrorOf (if_read (Some (whole_at span text))) (whole_at span text ∷ []) before after (refusal_of error span)
 whole_error T span text error before after tells unread noted =
     refused_error T (whole_at span text) error before after tells (λ is. whole_refused span text (unread is)) (λ is. record { place = refl; text = wrap (noted is) })
@@ -116,7 +121,7 @@ whole_error T span text error before after tells unread noted =
     wrap (inr is) = inr (refl, is)
 
 pub free_error : (T : Type 0) (span : Span) (text : List ℕ) (error : PatternError) (before after : Marks) → Tells T error before after
-    → (Err {T = T} error ≡ Err NotRead → IsUnreadable text) → (Err {T = T} error ≡ Err TooLarge → after.last ≡ text)
+    → (IsErr T error NotRead → IsUnreadable text) → (IsErr T error TooLarge → after.last ≡ text)
     → IsErrorOf (if_read (Some (free_at span text))) (free_at span text ∷ []) before after (refusal_of error span)
 free_error T span text error before after tells unread noted =
     refused_error T (free_at span text) error before after tells (λ is. free_refused span text (unread is)) (λ is. record { place = refl; text = inl (noted is) })

@@ -9,8 +9,9 @@ ghost use Rattle.expression_analysis.specs.Steps.{marks_of, kinds_in, IsCompleti
 use crate::AnalyzeError;
 use crate::parts::Parts;
 use crate::patterns::read_pattern;
+use esql_ast::NodeAt;
 use esql_plan::{Function, FunctionRow, TypedExpr, TypedForm};
-use esql_types::{Kind, Maker, NodeId, Seq, Span};
+use esql_types::{Kind, Maker, Seq, Span};
 use function_signatures::{kind_of_call, misfit};
 use row_semantics::NameRule;
 use std::alloc::{AllocError, Global};
@@ -20,15 +21,14 @@ use text_match::Patterns;
 #[tactic(none)]
 pub(crate) fn completed<M: Maker>(
     alloc: Global,
-    node: NodeId,
-    span: Span,
+    at: NodeAt,
     function: Function,
     parts: Parts,
     literal: Option<&str>,
     patterns: &mut Patterns,
     maker: &mut M,
 ) -> Result<TypedExpr, AnalyzeError>
-    ensures { IsCompletion node function parts (option_copied literal.entry) span patterns.old patterns.new (marks_of M.refused M.last maker.old) (marks_of M.refused M.last maker.new) result }
+    ensures { IsCompletion at.node function parts (option_copied literal.entry) at.span patterns.old patterns.new (marks_of M.refused M.last maker.old) (marks_of M.refused M.last maker.new) result }
 {
     let Parts { args, spans } = parts;
     let wrong = wrong_literal(function, spans.as_slice(), literal);
@@ -38,12 +38,12 @@ pub(crate) fn completed<M: Maker>(
     if let Some(place) = first_place(misfit(in_plan, kinds.as_slice()), wrong) {
         return Err(AnalyzeError::Broken {
             rule: NameRule::BadKind,
-            span: span_at(spans.as_slice(), place, span),
+            span: span_at(spans.as_slice(), place, at.span),
         });
     }
     let pattern = read_pattern(alloc, function, spans.as_slice(), literal, patterns, maker)?;
     Ok(TypedExpr {
-        node,
+        node: at.node,
         kind: kind_of_call(in_plan, kinds.as_slice()),
         form: TypedForm::Apply {
             function: in_plan,

@@ -78,13 +78,23 @@ fn typed<M: Maker>(
         Form::Minus { arg } => unary(alloc, at, Function::Neg, arg, columns, patterns, maker),
         Form::Not { arg } => unary(alloc, at, Function::Not, arg, columns, patterns, maker),
         Form::Binary { op, left, right } => {
-            binary(alloc, at, *op, left, right, columns, patterns, maker)
+            let mut parts = Parts::new(alloc);
+            add(alloc, left.get(), columns, &mut parts, patterns, maker)?;
+            add(alloc, right.get(), columns, &mut parts, patterns, maker)?;
+            let literal = literal_of(right.get());
+            completed(alloc, at, function_of(*op), parts, literal, patterns, maker)
         }
         Form::Within {
             negated,
             left,
             items,
-        } => within(alloc, at, *negated, left, items, columns, patterns, maker),
+        } => {
+            let mut parts = Parts::new(alloc);
+            add(alloc, left.get(), columns, &mut parts, patterns, maker)?;
+            add_all(alloc, items.as_slice(), columns, &mut parts, patterns, maker)?;
+            let literal = literal_at(items.as_slice(), 0);
+            completed(alloc, at, in_function(*negated), parts, literal, patterns, maker)
+        }
         Form::Like {
             negated,
             regex,
@@ -154,50 +164,7 @@ fn unary<M: Maker>(
 {
     let mut parts = Parts::new(alloc);
     add(alloc, arg.get(), columns, &mut parts, patterns, maker)?;
-    completed(alloc, at.node, at.span, function, parts, None, patterns, maker)
-}
-
-#[cycle(typed)]
-#[tactic(none)]
-fn binary<M: Maker>(
-    alloc: Global,
-    at: NodeAt,
-    op: BinaryOp,
-    left: &Boxed<Expr>,
-    right: &Boxed<Expr>,
-    columns: &[OutColumn],
-    patterns: &mut Patterns,
-    maker: &mut M,
-) -> Result<TypedExpr, AnalyzeError>
-    ensures { IsAnswer (applied_to at.node at.span (function_of op) (left.now ∷ right.now ∷ [])) columns.now patterns.old patterns.new (marks_of M.refused M.last maker.old) (marks_of M.refused M.last maker.new) result }
-{
-    let mut parts = Parts::new(alloc);
-    add(alloc, left.get(), columns, &mut parts, patterns, maker)?;
-    add(alloc, right.get(), columns, &mut parts, patterns, maker)?;
-    let literal = literal_of(right.get());
-    completed(alloc, at.node, at.span, function_of(op), parts, literal, patterns, maker)
-}
-
-#[cycle(typed)]
-#[tactic(none)]
-fn within<M: Maker>(
-    alloc: Global,
-    at: NodeAt,
-    negated: bool,
-    left: &Boxed<Expr>,
-    items: &Seq<Expr>,
-    columns: &[OutColumn],
-    patterns: &mut Patterns,
-    maker: &mut M,
-) -> Result<TypedExpr, AnalyzeError>
-    ensures { IsAnswer (applied_to at.node at.span (if negated then Function.NotIn else Function.In) (left.now ∷ items.now)) columns.now patterns.old patterns.new (marks_of M.refused M.last maker.old) (marks_of M.refused M.last maker.new) result }
-{
-    let mut parts = Parts::new(alloc);
-    add(alloc, left.get(), columns, &mut parts, patterns, maker)?;
-    add_all(alloc, items.as_slice(), columns, &mut parts, patterns, maker)?;
-    let function = if negated { Function::NotIn } else { Function::In };
-    let literal = literal_at(items.as_slice(), 0);
-    completed(alloc, at.node, at.span, function, parts, literal, patterns, maker)
+    completed(alloc, at, function, parts, None, patterns, maker)
 }
 
 /// LIKE or RLIKE, whose pattern is a constant of the operator's node.
@@ -219,7 +186,7 @@ fn like<M: Maker>(
     add(alloc, left.get(), columns, &mut parts, patterns, maker)?;
     parts.push_pattern(alloc, at.node, pattern)?;
     let literal = Some(pattern.text.as_str());
-    completed(alloc, at.node, at.span, function, parts, literal, patterns, maker)
+    completed(alloc, at, function, parts, literal, patterns, maker)
 }
 
 /// A conversion to the kind of a name; a name that is no kind is refused behind what the argument breaks itself.
@@ -240,7 +207,7 @@ fn cast<M: Maker>(
     add(alloc, arg.get(), columns, &mut parts, patterns, maker)?;
     match cast_function(kind.name.as_str()) {
         Some(function) => {
-            completed(alloc, at.node, at.span, function, parts, None, patterns, maker)
+            completed(alloc, at, function, parts, None, patterns, maker)
         }
         None => broken(NameRule::BadKind, kind.span),
     }
@@ -291,13 +258,19 @@ fn call_of<M: Maker>(
     let mut parts = Parts::new(alloc);
     add_all(alloc, args.as_slice(), columns, &mut parts, patterns, maker)?;
     let literal = literal_at(args.as_slice(), 1);
-    completed(alloc, at.node, at.span, row.function, parts, literal, patterns, maker)
+    completed(alloc, at, row.function, parts, literal, patterns, maker)
 }
 
 fn broken(rule: NameRule, span: Span) -> Result<TypedExpr, AnalyzeError>
     ensures { result ≡ Err (AnalyzeError.Broken rule span) }
 {
     Err(AnalyzeError::Broken { rule, span })
+}
+
+fn in_function(negated: bool) -> Function
+    ensures { result ≡ (if negated then Function.NotIn else Function.In) }
+{
+    if negated { Function::NotIn } else { Function::In }
 }
 
 fn null_function(negated: bool) -> Function
