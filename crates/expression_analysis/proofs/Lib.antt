@@ -1,10 +1,10 @@
 pub mod Answered
-pub mod Calls
+pub mod CallsNamed
 pub mod Completed
 pub mod Judgements
 pub mod Leaves
 pub mod PartsTyped
-pub mod Patterns
+pub mod PatternParts
 pub mod Placed
 pub mod Regexes
 pub mod Seens

@@ -28,7 +28,6 @@ use text_match::Patterns;
 /// # Errors
 /// The first rule that the expression breaks; a regular expression that is too large to be built; want of memory. After an
 /// error the patterns may be more than before.
-#[tactic(none)]
 pub fn typed_expr<M: Maker>(
     alloc: Global,
     expr: &Expr,
@@ -132,7 +131,6 @@ fn add<M: Maker>(
 
 /// Adds the typed forms of expressions to parts, from the left.
 #[cycle(typed)]
-#[tactic(none)]
 fn add_all<M: Maker>(
     alloc: Global,
     exprs: &[Expr],

@@ -13,16 +13,16 @@ use Rattle.esql_plan.specs.Names.{function_named, aggregate_named, cast_named}
 use Rattle.row_semantics.specs.declared.rule.NameRule.TheVariants as rule
 use Rattle.row_semantics.specs.Forms.{function_of, like_function, constant_in, list_in_kind, kind_of_list, takes}
 use Rattle.row_semantics.specs.Typed.{visible_named}
-use Rattle.std.specs.Prelude.{slice_get}
+use Rattle.std.specs.Prelude.{slice_get, if◌then◌else◌}
 use Rattle.std.specs.Option.{option_copied}
 use Rattle.expression_analysis.specs.declared.error.AnalyzeError.TheVariants as error
 use Rattle.expression_analysis.specs.Calls.{second_literal, takes_few}
 use Rattle.expression_analysis.specs.Steps.{Readings, marks_of, readings_of, applied_to, pattern_expr, judgeds, IsAnswer, AreAnswer, AreTyped, IsPlainAnswer, constant_or_rule, column_or_rule, literal_of_expr, literal_found}
-use Rattle.expression_analysis.proofs.Calls.{call_readings, call_taken, call_untaken, few_found, cast_readings, cast_error, cast_refused, named_readings}
+use Rattle.expression_analysis.proofs.CallsNamed.{call_readings, call_taken, call_untaken, few_found, cast_readings, cast_error, cast_refused, few_within, named_readings}
 use Rattle.expression_analysis.proofs.Completed.{completes, parts_error, few_parts}
 use Rattle.expression_analysis.proofs.Leaves.{list_answers, constant_answers, column_answers, refused_answers}
 use Rattle.expression_analysis.proofs.PartsTyped.{typed_one, typed_none, typed_both, error_one, error_before, error_behind, taken_more, cut_at}
-use Rattle.expression_analysis.proofs.Patterns.{typed_pattern, pattern_literal, second_found, next_found, like_read}
+use Rattle.expression_analysis.proofs.PatternParts.{typed_pattern, pattern_literal, second_found, next_found, like_read}
 use Rattle.expression_analysis.proofs.Seens.{readings_opened}
 use Rattle.expression_analysis.proofs.expression.+typed.Goals as goal
 use Rattle.expression_analysis.proofs.expression.+typed.Goals.{call_of-then-star-via-then-star, call_of-then-star-via-else-star+then-not-takes}
@@ -193,7 +193,7 @@ call-find_aggregate-requires-text-name g t c κs = search rules
 pub call-call_of-requires : goal.call-call_of-requires
 call-call_of-requires g t c κs within =
     let found : function_named c.args.function.now.name ≡ Some c.in-Some-default.row = ap function_named (sym c.as_str-name.ensures) ∙ sym c.find_function.ensures ∙ c.in-Some-default.is-0 in
-    (search (rules, the_lemmas), search (rules, the_lemmas), few_found c.args.function.now.name c.in-Some-default.row found)
+    (search (rules, the_lemmas), (search (rules, the_lemmas), few_found c.args.function.now.name c.in-Some-default.row found))
 
 pub call-returns-in-Some-default : goal.call-returns-in-Some-default
 call-returns-in-Some-default g t c =
@@ -360,3 +360,107 @@ typed-returns-in-Cast g t c =
     let after = marks_of g.M.Maker.refused g.M.Maker.last c.cast.new.maker in
     subst (λ (read : Readings). IsAnswer read c.args.columns.now c.args.patterns.now c.cast.new.patterns before after c.cast.result) (sym (readings_opened c.args.expr.now (Cast c.in-Cast.arg c.in-Cast.kind) _ c.in-Cast.is (outs-Cast c.in-Cast.arg c.in-Cast.kind)))
     (c.cast.ensures)
+
+pub typed-add-requires : goal.typed-add-requires
+typed-add-requires g t c κs within = search (rules, the_lemmas)
+
+pub typed-add-requires-in-Binary : goal.typed-add-requires-in-Binary
+typed-add-requires-in-Binary g t c κs within = search (rules, the_lemmas)
+
+pub typed-add-requires-in-Within : goal.typed-add-requires-in-Within
+typed-add-requires-in-Within g t c κs within = search (rules, the_lemmas)
+
+pub typed-add_all-requires : goal.typed-add_all-requires
+typed-add_all-requires g t c κs within = search (rules, the_lemmas)
+
+pub typed-returns-in_err-add-in-Binary : goal.typed-returns-in_err-add-in-Binary
+typed-returns-in_err-add-in-Binary g t c =
+    let before = marks_of g.M.Maker.refused g.M.Maker.last c.args.maker.now in
+    let after = marks_of g.M.Maker.refused g.M.Maker.last c.add.new.maker in
+    let at_node = c.args.expr.now.node in
+    let at_span = c.args.expr.now.span in
+    let error = c.in_err-add-in-Binary.field-0.0 in
+    let p = err_from_is_err_and c.from_residual.result c.from_residual.ensures.1 in
+    rw (p.1, p.2) (subst (λ (read : Readings). IsAnswer read c.args.columns.now c.args.patterns.now c.add.new.patterns before after (Err error)) (sym (readings_opened c.args.expr.now (Binary c.in-Binary.op c.in-Binary.left c.in-Binary.right) _ c.in-Binary.is (outs-Binary c.in-Binary.op c.in-Binary.left c.in-Binary.right)))
+    (subst (λ (left : Expr). IsAnswer (applied_to at_node at_span (function_of c.in-Binary.op) (left ∷ c.in-Binary.right ∷ [])) c.args.columns.now c.args.patterns.now c.add.new.patterns before after (Err error)) c.get-in-Binary.ensures
+    (parts_error c.args.columns.now (c.get-in-Binary.result.now ∷ c.in-Binary.right ∷ []) at_node at_span (function_of c.in-Binary.op) before after error
+    (error_before c.args.columns.now (c.get-in-Binary.result.now ∷ []) (c.in-Binary.right ∷ []) before after error c.in_err-add-in-Binary.ensures))))
+
+pub typed-returns-in_err-add-in-Binary-2 : goal.typed-returns-in_err-add-in-Binary-2
+typed-returns-in_err-add-in-Binary-2 g t c =
+    let before = marks_of g.M.Maker.refused g.M.Maker.last c.args.maker.now in
+    let after = marks_of g.M.Maker.refused g.M.Maker.last c.add-in-Binary.new.maker in
+    let between = marks_of g.M.Maker.refused g.M.Maker.last c.add.new.maker in
+    let at_node = c.args.expr.now.node in
+    let at_span = c.args.expr.now.span in
+    let error = c.in_err-add-in-Binary-2.field-0.0 in
+    let p = err_from_is_err_and c.from_residual-in_err-add-in-Binary-2.result c.from_residual-in_err-add-in-Binary-2.ensures.1 in
+    rw (p.1, p.2) (subst (λ (read : Readings). IsAnswer read c.args.columns.now c.args.patterns.now c.add-in-Binary.new.patterns before after (Err error)) (sym (readings_opened c.args.expr.now (Binary c.in-Binary.op c.in-Binary.left c.in-Binary.right) _ c.in-Binary.is (outs-Binary c.in-Binary.op c.in-Binary.left c.in-Binary.right)))
+    (subst (λ (left : Expr). IsAnswer (applied_to at_node at_span (function_of c.in-Binary.op) (left ∷ c.in-Binary.right ∷ [])) c.args.columns.now c.args.patterns.now c.add-in-Binary.new.patterns before after (Err error)) c.get-in-Binary.ensures
+    (subst (λ (right : Expr). IsAnswer (applied_to at_node at_span (function_of c.in-Binary.op) (c.get-in-Binary.result.now ∷ right ∷ [])) c.args.columns.now c.args.patterns.now c.add-in-Binary.new.patterns before after (Err error)) c.get-in-Binary-2.ensures
+    (parts_error c.args.columns.now (c.get-in-Binary.result.now ∷ c.get-in-Binary-2.result.now ∷ []) at_node at_span (function_of c.in-Binary.op) before after error
+    (error_behind c.args.columns.now (c.get-in-Binary.result.now ∷ []) (c.get-in-Binary-2.result.now ∷ []) _ before between after error c.in_ok-add-in-Binary.ensures.0.gives c.in_ok-add-in-Binary.ensures.1 c.in_err-add-in-Binary-2.ensures)))))
+
+pub typed-returns-in_ok-add-in-Binary-2 : goal.typed-returns-in_ok-add-in-Binary-2
+typed-returns-in_ok-add-in-Binary-2 g t c =
+    let before = marks_of g.M.Maker.refused g.M.Maker.last c.args.maker.now in
+    let after = marks_of g.M.Maker.refused g.M.Maker.last c.completed.new.maker in
+    let at_node = c.args.expr.now.node in
+    let at_span = c.args.expr.now.span in
+    let left : Expr = c.get-in-Binary.result.now in
+    let right : Expr = c.get-in-Binary-2.result.now in
+    let both = typed_both c.args.columns.now (left ∷ []) (right ∷ []) c.new-parts.result c.add.new.parts c.add-in-Binary.new.parts c.args.patterns.now c.add.new.patterns c.add-in-Binary.new.patterns c.in_ok-add-in-Binary.ensures.0 c.in_ok-add-in-Binary-2.ensures.0 in
+    let literal : option_copied c.literal_of-literal.result ≡ second_literal (judgeds (left ∷ right ∷ [])) = c.literal_of-literal.ensures ∙ ap literal_of_expr (c.get-in-Binary-3.ensures ∙ sym c.get-in-Binary-2.ensures) in
+    subst (λ (read : Readings). IsAnswer read c.args.columns.now c.args.patterns.now c.completed.new.patterns before after c.completed.result) (sym (readings_opened c.args.expr.now (Binary c.in-Binary.op c.in-Binary.left c.in-Binary.right) _ c.in-Binary.is (outs-Binary c.in-Binary.op c.in-Binary.left c.in-Binary.right)))
+    (subst (λ (left : Expr). IsAnswer (applied_to at_node at_span (function_of c.in-Binary.op) (left ∷ c.in-Binary.right ∷ [])) c.args.columns.now c.args.patterns.now c.completed.new.patterns before after c.completed.result) c.get-in-Binary.ensures
+    (subst (λ (right : Expr). IsAnswer (applied_to at_node at_span (function_of c.in-Binary.op) (c.get-in-Binary.result.now ∷ right ∷ [])) c.args.columns.now c.args.patterns.now c.completed.new.patterns before after c.completed.result) c.get-in-Binary-2.ensures
+    (subst (λ (own : Function). IsAnswer (applied_to at_node at_span own (left ∷ right ∷ [])) c.args.columns.now c.args.patterns.now c.completed.new.patterns before after c.completed.result) c.function_of.ensures
+    (completes c.args.columns.now (left ∷ right ∷ []) at_node at_span c.function_of.result c.new-parts.result c.add-in-Binary.new.parts (option_copied c.literal_of-literal.result) c.args.patterns.now c.add-in-Binary.new.patterns before (marks_of g.M.Maker.refused g.M.Maker.last c.add-in-Binary.new.maker) c.new-parts.ensures.args c.new-parts.ensures.spans
+    both (c.in_ok-add-in-Binary-2.ensures.1 ∙ c.in_ok-add-in-Binary.ensures.1) literal (few_parts c.function_of.result 2 refl) c.completed.new.patterns after c.completed.result c.completed.ensures))))
+
+pub typed-returns-in_err-add-in-Within : goal.typed-returns-in_err-add-in-Within
+typed-returns-in_err-add-in-Within g t c =
+    let before = marks_of g.M.Maker.refused g.M.Maker.last c.args.maker.now in
+    let after = marks_of g.M.Maker.refused g.M.Maker.last c.add-in-Within.new.maker in
+    let at_node = c.args.expr.now.node in
+    let at_span = c.args.expr.now.span in
+    let error = c.in_err-add-in-Within.field-0.0 in
+    let p = err_from_is_err_and c.from_residual-in_err-add-in-Within.result c.from_residual-in_err-add-in-Within.ensures.1 in
+    rw (p.1, p.2) (subst (λ (read : Readings). IsAnswer read c.args.columns.now c.args.patterns.now c.add-in-Within.new.patterns before after (Err error)) (sym (readings_opened c.args.expr.now (Within c.in-Within.negated c.in-Within.left c.in-Within.items) _ c.in-Within.is (outs-Within c.in-Within.negated c.in-Within.left c.in-Within.items)))
+    (subst (λ (left : Expr). IsAnswer (applied_to at_node at_span (if c.in-Within.negated then function.NotIn else function.In) (left ∷ c.in-Within.items)) c.args.columns.now c.args.patterns.now c.add-in-Within.new.patterns before after (Err error)) c.get-in-Within.ensures
+    (parts_error c.args.columns.now (c.get-in-Within.result.now ∷ c.in-Within.items) at_node at_span (if c.in-Within.negated then function.NotIn else function.In) before after error
+    (error_before c.args.columns.now (c.get-in-Within.result.now ∷ []) c.in-Within.items before after error c.in_err-add-in-Within.ensures))))
+
+pub typed-returns-in_err-add_all-in-Within : goal.typed-returns-in_err-add_all-in-Within
+typed-returns-in_err-add_all-in-Within g t c =
+    let before = marks_of g.M.Maker.refused g.M.Maker.last c.args.maker.now in
+    let after = marks_of g.M.Maker.refused g.M.Maker.last c.add_all.new.maker in
+    let between = marks_of g.M.Maker.refused g.M.Maker.last c.add-in-Within.new.maker in
+    let at_node = c.args.expr.now.node in
+    let at_span = c.args.expr.now.span in
+    let error = c.in_err-add_all-in-Within.field-0.0 in
+    let p = err_from_is_err_and c.from_residual-in_err-add_all-in-Within.result c.from_residual-in_err-add_all-in-Within.ensures.1 in
+    rw (p.1, p.2) (subst (λ (read : Readings). IsAnswer read c.args.columns.now c.args.patterns.now c.add_all.new.patterns before after (Err error)) (sym (readings_opened c.args.expr.now (Within c.in-Within.negated c.in-Within.left c.in-Within.items) _ c.in-Within.is (outs-Within c.in-Within.negated c.in-Within.left c.in-Within.items)))
+    (subst (λ (left : Expr). IsAnswer (applied_to at_node at_span (if c.in-Within.negated then function.NotIn else function.In) (left ∷ c.in-Within.items)) c.args.columns.now c.args.patterns.now c.add_all.new.patterns before after (Err error)) c.get-in-Within.ensures
+    (subst (λ (items : List Expr). IsAnswer (applied_to at_node at_span (if c.in-Within.negated then function.NotIn else function.In) (c.get-in-Within.result.now ∷ items)) c.args.columns.now c.args.patterns.now c.add_all.new.patterns before after (Err error)) c.as_slice-in-Within.ensures
+    (parts_error c.args.columns.now (c.get-in-Within.result.now ∷ c.as_slice-in-Within.result.now) at_node at_span (if c.in-Within.negated then function.NotIn else function.In) before after error
+    (error_behind c.args.columns.now (c.get-in-Within.result.now ∷ []) c.as_slice-in-Within.result.now _ before between after error c.in_ok-add-in-Within.ensures.0.gives c.in_ok-add-in-Within.ensures.1 c.in_err-add_all-in-Within.ensures)))))
+
+pub typed-returns-in_ok-add_all-in-Within : goal.typed-returns-in_ok-add_all-in-Within
+typed-returns-in_ok-add_all-in-Within g t c =
+    let before = marks_of g.M.Maker.refused g.M.Maker.last c.args.maker.now in
+    let after = marks_of g.M.Maker.refused g.M.Maker.last c.completed-in-Within.new.maker in
+    let at_node = c.args.expr.now.node in
+    let at_span = c.args.expr.now.span in
+    let left : Expr = c.get-in-Within.result.now in
+    let items : List Expr = c.as_slice-in-Within.result.now in
+    let both = typed_both c.args.columns.now (left ∷ []) items c.new-parts-in-Within.result c.add-in-Within.new.parts c.add_all.new.parts c.args.patterns.now c.add-in-Within.new.patterns c.add_all.new.patterns c.in_ok-add-in-Within.ensures.0 c.in_ok-add_all-in-Within.ensures.0 in
+    let literal : option_copied c.literal_at-literal.result ≡ second_literal (judgeds (left ∷ items)) =
+    c.literal_at-literal.ensures ∙ ap (λ (these : List Expr). literal_found (slice_get these 0)) (c.as_slice-in-Within-2.ensures ∙ sym c.as_slice-in-Within.ensures) ∙ next_found left items in
+    let few = ap (λ (own : Function). takes_few own (length (left ∷ items))) c.in_function.ensures ∙ few_within c.in-Within.negated (length (left ∷ items)) in
+    subst (λ (read : Readings). IsAnswer read c.args.columns.now c.args.patterns.now c.completed-in-Within.new.patterns before after c.completed-in-Within.result) (sym (readings_opened c.args.expr.now (Within c.in-Within.negated c.in-Within.left c.in-Within.items) _ c.in-Within.is (outs-Within c.in-Within.negated c.in-Within.left c.in-Within.items)))
+    (subst (λ (left : Expr). IsAnswer (applied_to at_node at_span (if c.in-Within.negated then function.NotIn else function.In) (left ∷ c.in-Within.items)) c.args.columns.now c.args.patterns.now c.completed-in-Within.new.patterns before after c.completed-in-Within.result) c.get-in-Within.ensures
+    (subst (λ (items : List Expr). IsAnswer (applied_to at_node at_span (if c.in-Within.negated then function.NotIn else function.In) (c.get-in-Within.result.now ∷ items)) c.args.columns.now c.args.patterns.now c.completed-in-Within.new.patterns before after c.completed-in-Within.result) c.as_slice-in-Within.ensures
+    (subst (λ (own : Function). IsAnswer (applied_to at_node at_span own (left ∷ items)) c.args.columns.now c.args.patterns.now c.completed-in-Within.new.patterns before after c.completed-in-Within.result) c.in_function.ensures
+    (completes c.args.columns.now (left ∷ items) at_node at_span c.in_function.result c.new-parts-in-Within.result c.add_all.new.parts (option_copied c.literal_at-literal.result) c.args.patterns.now c.add_all.new.patterns before (marks_of g.M.Maker.refused g.M.Maker.last c.add_all.new.maker) c.new-parts-in-Within.ensures.args c.new-parts-in-Within.ensures.spans
+    both (c.in_ok-add_all-in-Within.ensures.1 ∙ c.in_ok-add-in-Within.ensures.1) literal few c.completed-in-Within.new.patterns after c.completed-in-Within.result c.completed-in-Within.ensures))))

@@ -1,6 +1,7 @@
 -- Calls and conversions, by what their names are found as.
 use Rattle.std.proofs.Common.{◌≡◌, ℕ, Bool, true, false, ◌&&◌, nat_le, cond, List, [], ◌∷◌, ◌++◌, map, length, Option, Some, None, Result, Ok, Err, refl, ap, sym, subst, ◌∙◌, arith}
 use Rattle.std.proofs.lemmas.List.{length-map, append-nil}
+use Rattle.std.specs.Prelude.{if◌then◌else◌}
 use Rattle.std.specs.List.{list_all}
 use Rattle.std.specs.Str.{str_eq_ignore_ascii_case}
 use Rattle.std.proofs.lemmas.Bool.{and_parts}
@@ -113,3 +114,8 @@ cast_refused columns node span arg at old new before after kinds gives same =
 abbrev pub named_readings : NodeId → Span → Option FunctionRow → Option AggFunction → Span → Bool → List Expr → Readings
 named_readings node span found other name star exprs =
     readings_at node span (call_by found other name star (typings exprs) span) (call_by found other name star (judgeds exprs) span) (call_by found other name star (regular_parts exprs) span)
+
+-- IN has any number of items
+pub few_within : (negated : Bool) (count : ℕ) → takes_few (if negated then function.NotIn else function.In) count ≡ true
+few_within true count = refl
+few_within false count = refl
