@@ -1,0 +1,12 @@
+pub mod Answered
+pub mod CallsNamed
+pub mod Completed
+pub mod Judgements
+pub mod Leaves
+pub mod PartsTyped
+pub mod PatternParts
+pub mod Placed
+pub mod Regexes
+pub mod Seens
+pub mod Shown
+pub mod Words
