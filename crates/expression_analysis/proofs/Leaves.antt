@@ -86,14 +86,16 @@ module _ (columns : List OutColumn) (node : NodeId) (span : Span) (patterns : Pa
 
   column_found : (name : List ℕ) (found : Option OutColumn) (result : Result TypedExpr AnalyzeError) → visible_named columns name ≡ found → column_named (columns_of columns) name ≡ option_map seen_column found
       → IsPlainAnswer (column_or_rule node span found) result → IsAnswer (column_readings name) columns patterns patterns marks marks result
-  column_found name (Some column) (Ok typed) sees finds is =
-      (subst (IsTyped (column_readings name) columns patterns patterns) (ok_same _ typed is)
-      (record {
-        is = λ room. sym (ap (typed_column node) sees);
-        gives = subst (λ (these : Option NamedColumn). Gives (λ accepts. kind_of_column these span) column.kind) (sym finds) (gives_all Kind column.kind);
-        whole = sym (append-nil patterns.whole);
-        free = sym (append-nil patterns.free);
-      }), refl)
+  column_found name (Some column) (Ok typed) sees finds is = (
+    subst (IsTyped (column_readings name) columns patterns patterns) (ok_same _ typed is)
+        (record {
+          is = λ room. sym (ap (typed_column node) sees);
+          gives = subst (λ (these : Option NamedColumn). Gives (λ accepts. kind_of_column these span) column.kind) (sym finds) (gives_all Kind column.kind);
+          whole = sym (append-nil patterns.whole);
+          free = sym (append-nil patterns.free);
+        }),
+    refl,
+  )
   column_found name None (Ok typed) sees finds is = absurd cc
   column_found name (Some column) (Err (error.Broken rule_of at)) sees finds is = absurd cc
   column_found name None (Err (error.Broken rule_of at)) sees finds is = (ap (λ (these : Option NamedColumn). kind_of_column these span) finds ∙ err_same _ _ is, refl)

@@ -3,7 +3,7 @@ ghost use Rattle.expression_analysis.specs.declared.error.AnalyzeError.TheVarian
 
 use esql_types::Span;
 use row_semantics::NameRule;
-use std::alloc::{AllocError};
+use std::alloc::AllocError;
 use thiserror::Error;
 
 /// Why a query has no plan.

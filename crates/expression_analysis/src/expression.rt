@@ -90,9 +90,24 @@ fn typed<M: Maker>(
         } => {
             let mut parts = Parts::new(alloc);
             add(alloc, left.get(), columns, &mut parts, patterns, maker)?;
-            add_all(alloc, items.as_slice(), columns, &mut parts, patterns, maker)?;
+            add_all(
+                alloc,
+                items.as_slice(),
+                columns,
+                &mut parts,
+                patterns,
+                maker,
+            )?;
             let literal = literal_at(items.as_slice(), 0);
-            completed(alloc, at, in_function(*negated), parts, literal, patterns, maker)
+            completed(
+                alloc,
+                at,
+                in_function(*negated),
+                parts,
+                literal,
+                patterns,
+                maker,
+            )
         }
         Form::Like {
             negated,
@@ -204,9 +219,7 @@ fn cast<M: Maker>(
     let mut parts = Parts::new(alloc);
     add(alloc, arg.get(), columns, &mut parts, patterns, maker)?;
     match cast_function(kind.name.as_str()) {
-        Some(function) => {
-            completed(alloc, at, function, parts, None, patterns, maker)
-        }
+        Some(function) => { completed(alloc, at, function, parts, None, patterns, maker) }
         None => broken(NameRule::BadKind, kind.span),
     }
 }
@@ -268,13 +281,21 @@ fn broken(rule: NameRule, span: Span) -> Result<TypedExpr, AnalyzeError>
 fn in_function(negated: bool) -> Function
     ensures { result ≡ (if negated then Function.NotIn else Function.In) }
 {
-    if negated { Function::NotIn } else { Function::In }
+    if negated {
+        Function::NotIn
+    } else {
+        Function::In
+    }
 }
 
 fn null_function(negated: bool) -> Function
     ensures { result ≡ (if negated then Function.IsNotNull else Function.IsNull) }
 {
-    if negated { Function::IsNotNull } else { Function::IsNull }
+    if negated {
+        Function::IsNotNull
+    } else {
+        Function::IsNull
+    }
 }
 
 fn like_function(negated: bool, regex: bool) -> Function

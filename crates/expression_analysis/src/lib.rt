@@ -10,6 +10,8 @@ mod error;
 mod expression;
 mod parts;
 mod patterns;
+#[cfg(test)]
+mod tests;
 
 pub use error::AnalyzeError;
 pub use expression::typed_expr;

@@ -64,6 +64,8 @@ returns g c =
     let own_kinds : c.as_slice-6.result.now ≡ arguments_in_plan function (kinds_in parts.args) =
     c.as_slice-6.ensures ∙ c.in_ok-kinds.ensures ∙ ap kinds_in (c.as_slice-3.ensures ∙ c.arguments_in_plan-args.ensures) ∙ kinds_in_plan function parts.args in
     let kind : c.kind_of_call.result ≡ kind_of_call (function_in_plan function (parts_at parts.spans literal)) (arguments_in_plan function (kinds_in parts.args)) =
-    c.kind_of_call.ensures ∙ (λ i. kind_of_call (in_plan i) (own_kinds i)) in
-    (completed_is c.args.at.node function parts literal c.args.at.span c.args.patterns.now c.read_pattern.new.patterns c.function_in_plan-in_plan.result c.arguments_in_plan-args.result c.kind_of_call.result
-    c.in_ok-pattern.pattern c.as_slice-5.result.now in_plan c.arguments_in_plan-args.ensures kind found c.as_slice-5.ensures c.in_ok-pattern.ensures.0, c.in_ok-pattern.ensures.1)
+    c.kind_of_call.ensures ∙ (λ i. kind_of_call (in_plan i) (own_kinds i)) in (
+      completed_is c.args.at.node function parts literal c.args.at.span c.args.patterns.now c.read_pattern.new.patterns c.function_in_plan-in_plan.result c.arguments_in_plan-args.result c.kind_of_call.result
+          c.in_ok-pattern.pattern c.as_slice-5.result.now in_plan c.arguments_in_plan-args.ensures kind found c.as_slice-5.ensures c.in_ok-pattern.ensures.0,
+      c.in_ok-pattern.ensures.1,
+    )

@@ -10,12 +10,14 @@ use Rattle.expression_analysis.proofs.patterns.add_whole.Goals as goal
 pub returns-in_ok-push-in-Ok : goal.returns-in_ok-push-in-Ok
 returns-in_ok-push-in-Ok g c =
     let before = marks_of g.M.Maker.refused g.M.Maker.last c.args.maker.now in
-    let after = marks_of g.M.Maker.refused g.M.Maker.last c.new.new.maker in
-    (record {
-      accepted = whole_accepted c.args.span c.args.text.now c.in-Ok.ensures.readable c.in-Ok.ensures.wrap_readable;
-      wholes_are = c.in_ok-push-in-Ok.ensures.ok ∙ ap (λ (made : List ℕ). c.args.patterns.now.whole ++ made ∷ []) c.in-Ok.ensures.text;
-      frees_are = sym (append-nil c.args.patterns.now.free);
-    }, marks_same before after (c.in-Ok.ensures.uncounted (λ is. cc)) (c.in-Ok.ensures.kept (λ is. cc)))
+    let after = marks_of g.M.Maker.refused g.M.Maker.last c.new.new.maker in (
+      record {
+        accepted = whole_accepted c.args.span c.args.text.now c.in-Ok.ensures.readable c.in-Ok.ensures.wrap_readable;
+        wholes_are = c.in_ok-push-in-Ok.ensures.ok ∙ ap (λ (made : List ℕ). c.args.patterns.now.whole ++ made ∷ []) c.in-Ok.ensures.text;
+        frees_are = sym (append-nil c.args.patterns.now.free);
+      },
+      marks_same before after (c.in-Ok.ensures.uncounted (λ is. cc)) (c.in-Ok.ensures.kept (λ is. cc)),
+    )
 
 pub returns-in_err-push-in-Ok : goal.returns-in_err-push-in-Ok
 returns-in_err-push-in-Ok g c =

@@ -1,0 +1,68 @@
+ghost use Rattle.std.specs.Prelude.{◌≡◌, [], IfOk};
+ghost use Rattle.row_semantics.specs.Typed.{typing_of};
+
+use crate::{AnalyzeError, typed_expr};
+use esql_ast::{Expr, Form};
+use esql_plan::{OutColumn, TypedForm};
+use esql_types::{ColId, CrateMaker, Kind, NodeId, Seq, Span, Text};
+use row_semantics::NameRule;
+use std::alloc::{AllocError, Global};
+use std::test::Fail;
+use text_match::Patterns;
+
+fn named(alloc: Global, name: &str) -> Result<Expr, AllocError>
+    ensures whole { IfOk result (λ expr. (typing_of expr).whole ≡ []) }
+    ensures free { IfOk result (λ expr. (typing_of expr).free ≡ []) }
+{
+    let name = Text::from_str(alloc, name)?;
+    Ok(Expr {
+        node: NodeId(7),
+        span: Span { from: 3, to: 4 },
+        form: Form::Column { name },
+    })
+}
+
+fn column(alloc: Global, name: &str, id: u32) -> Result<OutColumn, AllocError> {
+    Ok(OutColumn {
+        name: Text::from_str(alloc, name)?,
+        kind: Kind::Long,
+        id: ColId(id),
+    })
+}
+
+#[test]
+fn the_first_column_of_a_name(rt: HostRuntime) -> Result<(), Fail> {
+    let alloc = rt.alloc();
+    let mut columns = Seq::new(alloc);
+    for (name, id) in [("a", 0), ("b", 1), ("a", 2)] {
+        columns.push(column(alloc, name, id)?)?;
+    }
+    for (name, id) in [("a", Some(0)), ("b", Some(1)), ("A", None)] {
+        let mut patterns = Patterns {
+            whole: Seq::new(alloc),
+            free: Seq::new(alloc),
+        };
+        let mut maker = CrateMaker::new(Seq::new(alloc));
+        let expr = named(alloc, name)?;
+        let found = match typed_expr(alloc, &expr, columns.as_slice(), &mut patterns, &mut maker) {
+            Ok(typed) => match typed.form {
+                TypedForm::Column { id } => Some(id.0),
+                _ => None,
+            },
+            Err(error) => {
+                assert!(rt;
+                    matches!(
+                        error,
+                        AnalyzeError::Broken {
+                            rule: NameRule::UnknownColumn,
+                            ..
+                        }
+                    )
+                );
+                None
+            }
+        };
+        assert_eq!(rt; found, id);
+    }
+    Ok(())
+}
