@@ -1,6 +1,6 @@
 //! A query is judged and written as a plan in one pass: names become numbers, and regular expressions are built.
 //!
-//! Read its specs in this order: `Contexts`, `Writings`, `Answers`, `Regulars`, `Plans`.
+//! Read its specs in this order: `Contexts`, `Writings`, `Answers`, `Names`, `Regulars`, `Plans`.
 #![tactic(auto)]
 
 mod columns;
