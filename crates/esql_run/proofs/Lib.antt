@@ -3,11 +3,9 @@ mod CommandSpans
 mod EachBuilt
 mod Ends
 mod Judged
-mod Meant
 mod OneOutcome
 mod OneTables
 mod Somewhere
 mod Stops
 mod TableKinds
 mod TableNames
-mod Words

@@ -10,8 +10,7 @@ const NEVER: u64 = 1_000_000;
 const MAPPING: &str =
     "{\"mappings\":{\"properties\":{\"a\":{\"properties\":{\"b\":{\"type\":\"long\"}}}}}}";
 
-const ROWS: &str =
-    "{\"a\":{\"b\":1}}\r\n\r\n{\"a\":[{\"b\":2},{\"b\":[3,null]}]}\r\n{\"a.b\":4}";
+const ROWS: &str = "{\"a\":{\"b\":1}}\r\n\r\n{\"a\":[{\"b\":2},{\"b\":[3,null]}]}\r\n{\"a.b\":4}";
 
 /// The numbers of the calls that fail.
 #[derive(Clone, Copy)]

@@ -48,7 +48,7 @@ pub fn run<F: Files, M: Maker, K: Sink, E: Sink>(
         (K.taken out.old) (K.taken out.new) (E.taken err.old) (E.taken err.new) }
     ensures patterns { result ≡ Status.PatternRoom
         → TookRoom (IsRoomLine M.refused M.last (map string_bytes words.now) (F.holds files.old) maker.old maker.new)
-            (K.taken out.old) (K.taken out.new) (E.taken err.old) (E.taken err.new) }
+        (K.taken out.old) (K.taken out.new) (E.taken err.old) (E.taken err.new) }
 {
     match answer(alloc, words, files, maker) {
         Ok(answer) => write_both(
