@@ -1,5 +1,5 @@
 -- What an answer says clause by clause.
-use Rattle.std.proofs.Common.{◌≡◌, ℕ, ◌+◌, ◌≤◌, List, ◌++◌, length, Result, Ok, Err, IfOk, OnOk, refl, ap, sym, ◌∙◌, arith}
+use Rattle.std.proofs.Common.{◌≡◌, ℕ, ◌+◌, ◌≤◌, List, ◌++◌, length, Result, Ok, Err, IfOk, OnOk, ap, arith}
 use Rattle.std.specs.Prelude.{IfErr}
 use Rattle.esql_ast.specs.declared.expr.Expr.{Expr}
 use Rattle.esql_plan.specs.declared.plan.OutColumn.{OutColumn}
@@ -11,7 +11,7 @@ use Rattle.row_semantics.specs.Typed.{typing_of, typed_of}
 use Rattle.expression_analysis.specs.declared.error.AnalyzeError.{AnalyzeError}
 use Rattle.expression_analysis.specs.declared.error.AnalyzeError.TheVariants as error
 use Rattle.expression_analysis.specs.Answers.{visible_of, scope_of, regulars_of_expr, IsRefusal, IsTold, IsUntouched, IsQuiet}
-use Rattle.expression_analysis.specs.Steps.{Marks, marks_of, HasRoom, IsAnswer, readings_of}
+use Rattle.expression_analysis.specs.Steps.{Marks, marks_of, IsAnswer, readings_of}
 
 module _ (M : Type 0) (count : M → ℕ) (last : M → List ℕ) (maker made : M) (expr : Expr) (columns : List OutColumn) (old new : Patterns) where
   abbrev Answered : Result TypedExpr AnalyzeError → Type 0

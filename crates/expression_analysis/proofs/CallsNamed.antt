@@ -1,5 +1,5 @@
 -- Calls and conversions, by what their names are found as.
-use Rattle.std.proofs.Common.{◌≡◌, ℕ, Bool, true, false, ◌&&◌, nat_le, cond, List, [], ◌∷◌, ◌++◌, map, length, Option, Some, None, Result, Ok, Err, refl, ap, sym, subst, ◌∙◌, arith}
+use Rattle.std.proofs.Common.{◌≡◌, ℕ, Bool, true, false, nat_le, cond, List, [], ◌∷◌, map, length, Option, Some, None, Result, Err, refl, ap, sym, subst, ◌∙◌, arith}
 use Rattle.std.proofs.lemmas.List.{length-map, append-nil}
 use Rattle.std.specs.Prelude.{if◌then◌else◌}
 use Rattle.std.specs.List.{list_all}
@@ -16,14 +16,13 @@ use Rattle.esql_plan.specs.declared.function.AggFunction.{AggFunction}
 use Rattle.esql_plan.specs.declared.names.FunctionRow.{FunctionRow}
 use Rattle.esql_plan.specs.declared.plan.OutColumn.{OutColumn}
 use Rattle.esql_plan.specs.Names.{entry_in, function_names, function_named}
-use Rattle.esql_plan.specs.Signatures.{is_at_most}
 use Rattle.text_match.specs.declared.patterns.Patterns.{Patterns}
 use Rattle.row_semantics.specs.declared.rule.NameRule.TheVariants as rule
-use Rattle.row_semantics.specs.Forms.{Part, applied, aggregate, refused, takes, call_of, call_by, cast_by, part_of}
+use Rattle.row_semantics.specs.Forms.{Part, applied, refused, takes, call_of, call_by, cast_by, part_of}
 use Rattle.row_semantics.specs.Kinds.{Judged, judged, and_then, breaks}
 use Rattle.row_semantics.specs.Scopes.{Broken}
 use Rattle.row_semantics.specs.Typed.{Typing, typing}
-use Rattle.row_semantics.specs.Regulars.{Regular, is_accepted}
+use Rattle.row_semantics.specs.Regulars.{Regular}
 use Rattle.expression_analysis.specs.declared.error.AnalyzeError.{AnalyzeError}
 use Rattle.expression_analysis.specs.declared.error.AnalyzeError.TheVariants as error
 use Rattle.expression_analysis.specs.Answers.{regulars_in, regulars_of_parts}

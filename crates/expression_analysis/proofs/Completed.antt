@@ -1,5 +1,5 @@
 -- A function of typed parts answers for the node that it is.
-use Rattle.std.proofs.Common.{◌≡◌, ℕ, ◌+◌, ◌≤◌, nat_le, Bool, true, false, cond, List, [], ◌∷◌, ◌++◌, map, length, Option, Some, None, Result, Ok, Err, refl, ap, sym, subst, ◌∙◌, arith, length-append}
+use Rattle.std.proofs.Common.{◌≡◌, ℕ, ◌+◌, ◌≤◌, nat_le, Bool, true, false, cond, List, [], ◌∷◌, ◌++◌, map, length, Option, Some, None, Result, Ok, Err, refl, ap, sym, subst, ◌∙◌, arith}
 use Rattle.std.proofs.lemmas.Bool.Decides.{nat_tests}
 use Rattle.esql_types.specs.declared.places.Span.{Span}
 use Rattle.esql_types.specs.declared.names.NodeId.{NodeId}
@@ -7,23 +7,22 @@ use Rattle.esql_types.specs.declared.value.Kind.{Kind}
 use Rattle.esql_ast.specs.declared.expr.Expr.{Expr}
 use Rattle.esql_plan.specs.declared.function.Function.{Function}
 use Rattle.esql_plan.specs.declared.function.Function.TheVariants as function
-use Rattle.esql_plan.specs.declared.names.FunctionRow.{FunctionRow}
 use Rattle.esql_plan.specs.declared.plan.OutColumn.{OutColumn}
 use Rattle.esql_plan.specs.declared.typed.TypedExpr.{TypedExpr}
 use Rattle.text_match.specs.declared.patterns.Patterns.{Patterns}
-use Rattle.row_semantics.specs.Forms.{Part, Reader, part_of, takes, is_word, function_in_plan, arguments_in_plan}
+use Rattle.row_semantics.specs.Forms.{Part, Reader, part_of, is_word, function_in_plan, arguments_in_plan}
 use Rattle.row_semantics.specs.Kinds.{Judged, judged, wrong_literal, regular_of, kind_of_applied}
 use Rattle.row_semantics.specs.Regulars.{Regular}
 use Rattle.row_semantics.specs.Typed.{Typing, Visible, typing, typed_parts, typed_apply, whole_of, free_of, pattern_number}
 use Rattle.expression_analysis.specs.declared.error.AnalyzeError.{AnalyzeError}
 use Rattle.expression_analysis.specs.declared.parts.Parts.{Parts}
 use Rattle.expression_analysis.specs.Answers.{visible_of, scope_of, regulars_in, regulars_in_option, regulars_of_parts}
-use Rattle.expression_analysis.specs.Calls.{parts_at, second_literal, own_kind, takes_few, FewAreTaken}
-use Rattle.expression_analysis.specs.Steps.{Marks, Judgement, Gives, IsErrorOf, HasRoom, IsTyped, IsAnswer, judgement_over, applied_to, literal_of_expr, typings, judgeds, regular_parts, wholes, frees, kinds_in, kinds_judgement, AreTyped, own_whole, own_free, own_regulars, IsCompleted, IsCompletion}
+use Rattle.expression_analysis.specs.Calls.{parts_at, second_literal, own_kind, takes_few}
+use Rattle.expression_analysis.specs.Steps.{Marks, Judgement, IsErrorOf, IsTyped, IsAnswer, judgement_over, applied_to, literal_of_expr, typings, judgeds, regular_parts, wholes, frees, kinds_in, kinds_judgement, AreTyped, own_whole, own_free, own_regulars, IsCompleted, IsCompletion}
 use Rattle.expression_analysis.proofs.Judgements.{gives_same, gives_next, error_same, error_first, error_next}
 use Rattle.expression_analysis.proofs.PartsTyped.{room_first, room_next, room_same, grown, counted}
 use Rattle.expression_analysis.proofs.Seens.{own_span, literal_same, literal_quiet}
-use Rattle.expression_analysis.proofs.Shown.{spans_of, function_shown, wrong_shown, regular_shown, whole_shown, free_shown, own_shown}
+use Rattle.expression_analysis.proofs.Shown.{spans_of, function_shown, regular_shown, whole_shown, free_shown, own_shown}
 
 -- parts by what reads them ---------------------------------------------------------------------------------------------------------
 

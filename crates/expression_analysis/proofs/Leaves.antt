@@ -1,5 +1,5 @@
 -- Constants, lists, columns, and forms that break a rule: what is read of them.
-use Rattle.std.proofs.Common.{◌≡◌, ℕ, Bool, true, false, cond, List, [], ◌∷◌, ◌++◌, map, Option, Some, None, option_map, Result, Ok, Err, refl, ap, sym, subst, ◌∙◌}
+use Rattle.std.proofs.Common.{◌≡◌, ℕ, true, false, cond, List, [], ◌∷◌, Option, Some, None, option_map, Result, Ok, Err, refl, ap, sym, subst, ◌∙◌}
 use Rattle.std.specs.Str.{bytes_eq}
 use Rattle.std.proofs.lemmas.List.{append-nil}
 use Rattle.esql_types.specs.declared.places.Span.{Span}
@@ -13,16 +13,13 @@ use Rattle.esql_plan.specs.declared.typed.TypedExpr.{TypedExpr}
 use Rattle.text_match.specs.declared.patterns.Patterns.{Patterns}
 use Rattle.plan_semantics.specs.Plans.{columns_of}
 use Rattle.row_semantics.specs.declared.rule.NameRule.{NameRule}
-use Rattle.row_semantics.specs.declared.rule.NameRule.TheVariants as rule
-use Rattle.row_semantics.specs.Forms.{Seen, named, refused, list_in_kind, kind_of_list, constant_in}
-use Rattle.row_semantics.specs.Kinds.{Judged, judged, kind_of_column}
-use Rattle.row_semantics.specs.Regulars.{Regular}
+use Rattle.row_semantics.specs.Forms.{named, refused, list_in_kind, kind_of_list, constant_in}
+use Rattle.row_semantics.specs.Kinds.{kind_of_column}
 use Rattle.row_semantics.specs.Scopes.{Broken, column_named}
-use Rattle.row_semantics.specs.Typed.{Typing, typing, typed_column, visible_named}
+use Rattle.row_semantics.specs.Typed.{typed_column, visible_named}
 use Rattle.expression_analysis.specs.declared.error.AnalyzeError.{AnalyzeError}
 use Rattle.expression_analysis.specs.declared.error.AnalyzeError.TheVariants as error
-use Rattle.expression_analysis.specs.Answers.{visible_of, regulars_in}
-use Rattle.expression_analysis.specs.Steps.{Marks, Gives, IsTyped, IsAnswer, Readings, readings_at, judgement_over, IsPlainAnswer, constant_or_rule, column_or_rule}
+use Rattle.expression_analysis.specs.Steps.{Marks, Gives, IsTyped, IsAnswer, Readings, readings_at, IsPlainAnswer, constant_or_rule, column_or_rule}
 use Rattle.expression_analysis.proofs.Judgements.{gives_all}
 
 ok_same : (made typed : TypedExpr) → ◌≡◌ {A = Result TypedExpr Broken} (Ok made) (Ok typed) → made ≡ typed

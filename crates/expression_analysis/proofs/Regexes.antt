@@ -1,9 +1,8 @@
 -- Regular expressions that are read, or refused.
-use Rattle.std.proofs.Common.{◌≡◌, ◌⊎◌, inl, inr, ℕ, ◌+◌, ◌<◌, ◌≤◌, nat_le, Bool, true, false, not, ◌&&◌, ◌==◌, cond, List, [], ◌∷◌, ◌++◌, length, Option, Some, None, option_map, Result, Ok, Err, refl, ap, sym, subst, ◌∙◌, arith}
-use Rattle.std.specs.Prelude.{unwrap_or, slice_get, IfSome, IsSomeAnd, if◌then◌else◌}
+use Rattle.std.proofs.Common.{◌≡◌, ◌⊎◌, inl, inr, ℕ, ◌<◌, ◌≤◌, nat_le, Bool, true, false, not, ◌&&◌, ◌==◌, List, [], ◌∷◌, length, Some, None, option_map, Result, Ok, Err, refl, ap, arith}
+use Rattle.std.specs.Prelude.{unwrap_or, IfSome, IsSomeAnd, if◌then◌else◌}
 use Rattle.std.specs.Str.{chars}
 use Rattle.std.proofs.lemmas.Bool.Decides.{nat_tests}
-use Rattle.std.proofs.lemmas.List.{append-nil}
 use Rattle.regex_hir.specs.Meaning.{meaning}
 use Rattle.regex_syntax.specs.Captures.{SameCaptures}
 use Rattle.regex_syntax.specs.Grammar.{read, group_count}
@@ -15,17 +14,11 @@ use Rattle.esql_types.specs.declared.value.Kind.TheVariants as kind
 use Rattle.esql_types.specs.declared.maker.PatternError.{PatternError}
 use Rattle.esql_types.specs.declared.maker.PatternError.TheVariants.{NotRead, TooLarge, Memory}
 use Rattle.function_rules.specs.Found.{wrapped}
-use Rattle.esql_plan.specs.declared.function.Function.{Function}
-use Rattle.esql_plan.specs.declared.function.Function.TheVariants as function
-use Rattle.text_match.specs.declared.patterns.Patterns.{Patterns}
-use Rattle.row_semantics.specs.Kinds.{regular_of, breaks}
+use Rattle.row_semantics.specs.Kinds.{breaks}
 use Rattle.row_semantics.specs.declared.rule.NameRule.TheVariants.{BadRegex}
 use Rattle.row_semantics.specs.Regulars.{Regular, is_readable, is_accepted}
-use Rattle.row_semantics.specs.Typed.{pattern_number}
-use Rattle.expression_analysis.specs.declared.error.AnalyzeError.{AnalyzeError}
-use Rattle.expression_analysis.specs.Answers.{same_span, accepted_but, regulars_in_option, IsNoted}
-use Rattle.expression_analysis.specs.Calls.{parts_at}
-use Rattle.expression_analysis.specs.Steps.{Marks, IsErrorOf, WasTooLarge, HasRoom, own_whole, own_free, own_regulars, refusal_of, IsRead, if_read, IsReading, IsPatternRead, IsPatternAnswer}
+use Rattle.expression_analysis.specs.Answers.{same_span, accepted_but, IsNoted}
+use Rattle.expression_analysis.specs.Steps.{Marks, IsErrorOf, refusal_of, if_read}
 
 -- readable ------------------------------------------------------------------------------------------------------------------------
 

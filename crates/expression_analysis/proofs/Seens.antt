@@ -1,5 +1,5 @@
 -- What is read of an expression, by its form.
-use Rattle.std.proofs.Common.{◌≡◌, ℕ, List, [], ◌∷◌, map, Option, Some, None, refl, ap, sym, ◌∙◌}
+use Rattle.std.proofs.Common.{◌≡◌, ℕ, List, [], ◌∷◌, Some, refl, ap, sym, ◌∙◌}
 use Rattle.esql_types.specs.declared.places.Span.{Span}
 use Rattle.esql_types.specs.declared.names.NodeId.{NodeId}
 use Rattle.esql_types.specs.declared.value.Kind.{Kind}
@@ -9,7 +9,7 @@ use Rattle.esql_types.specs.declared.value.Value.TheVariants as value
 use Rattle.esql_ast.specs.declared.expr.Expr.{Expr}
 use Rattle.esql_ast.specs.declared.expr.Form.{Form}
 use Rattle.esql_ast.specs.declared.expr.Form.TheOpen.{Form-F, Constant, List as Listed, Column, Group, Call, Minus, Not, Binary, Within, Like, IsNull, Cast}
-use Rattle.esql_ast.specs.declared.expr.Form.TheViews.{out-Form, roll-Form, roll-Expr}
+use Rattle.esql_ast.specs.declared.expr.Form.TheViews.{out-Form}
 use Rattle.esql_ast.specs.declared.expr.Form.TheFolds.{map-Form, fold-Form, fold_out-Expr, fold_out-Form, fold-roll-Form, fold-roll-Expr}
 use Rattle.esql_ast.specs.declared.query.TextAt.{TextAt}
 use Rattle.row_semantics.specs.Forms.{Part, Reader, seen, literal_of, part_of_form, part_of, pattern_part}
@@ -17,7 +17,7 @@ use Rattle.row_semantics.specs.Kinds.{Judged, judged}
 use Rattle.row_semantics.specs.Regulars.{Regular}
 use Rattle.row_semantics.specs.Typed.{Typing, typing}
 use Rattle.expression_analysis.specs.Answers.{regulars_in}
-use Rattle.expression_analysis.specs.Steps.{Readings, readings_of, readings_at, literal_of_expr, pattern_expr}
+use Rattle.expression_analysis.specs.Steps.{readings_of, readings_at, literal_of_expr, pattern_expr}
 
 module _ (R : Type 0) (reader : Reader R) where
   abbrev in_form : Form → NodeId → Span → Part R

@@ -1,5 +1,5 @@
 -- A function says the same of its parts by their spans and the literal of the second as it does of the parts.
-use Rattle.std.proofs.Common.{◌≡◌, ℕ, Bool, true, false, List, [], ◌∷◌, map, Option, Some, None, Result, refl, ap, sym, ◌∙◌, cond}
+use Rattle.std.proofs.Common.{◌≡◌, Bool, List, [], ◌∷◌, map, Option, Some, None, refl, ap, ◌∙◌}
 use Rattle.esql_types.specs.declared.places.Span.{Span}
 use Rattle.esql_types.specs.declared.value.Kind.{Kind}
 use Rattle.esql_plan.specs.declared.function.Function.{Function}
@@ -9,10 +9,10 @@ use Rattle.esql_plan.specs.Signatures.{misfit, kind_of_call}
 use Rattle.row_semantics.specs.Forms.{Part, function_in_plan, arguments_in_plan}
 use Rattle.row_semantics.specs.Kinds.{Judged, wrong_literal, regular_of, first_place, if_accepted, fitting, kind_of_applied}
 use Rattle.row_semantics.specs.Regulars.{Regular}
-use Rattle.row_semantics.specs.Scopes.{Broken, Scope}
+use Rattle.row_semantics.specs.Scopes.{Scope}
 use Rattle.row_semantics.specs.Typed.{whole_of, free_of}
 use Rattle.expression_analysis.specs.Answers.{scope_of}
-use Rattle.expression_analysis.specs.Calls.{parts_at, second_literal, own_kind, place_of}
+use Rattle.expression_analysis.specs.Calls.{parts_at, second_literal, own_kind}
 
 abbrev pub spans_of : {A : Type 0} → List (Part A) → List Span
 spans_of parts = map (λ part. part.span) parts

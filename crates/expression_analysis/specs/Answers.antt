@@ -1,5 +1,5 @@
 -- What the analysis of an expression answers.
-use Rattle.std.specs.Prelude.{◌≡◌, ◌⊎◌, ◌≤◌, ℕ, ◌==◌, Bool, true, not, ◌&&◌, List, [], ◌∷◌, ◌++◌, Option, Some, None, Result, Ok, Err}
+use Rattle.std.specs.Prelude.{◌≡◌, ◌⊎◌, ℕ, ◌==◌, Bool, true, not, ◌&&◌, List, [], ◌∷◌, ◌++◌, Option, Some, None, Result, Ok, Err}
 use Rattle.std.specs.List.{flat_map}
 use Rattle.esql_types.specs.declared.places.Span.{Span}
 use Rattle.esql_types.specs.Counts.{Rose}
@@ -7,7 +7,6 @@ use Rattle.esql_ast.specs.declared.expr.Expr.{Expr}
 use Rattle.esql_plan.specs.declared.plan.OutColumn.{OutColumn}
 use Rattle.function_rules.specs.Found.{wrapped}
 use Rattle.plan_semantics.specs.Plans.{columns_of}
-use Rattle.row_semantics.specs.declared.rule.NameRule.{NameRule}
 use Rattle.row_semantics.specs.declared.rule.NameRule.TheVariants.{BadRegex}
 use Rattle.row_semantics.specs.Forms.{Part, constant, named, same, applied, aggregate, refused, Reader, read_by}
 use Rattle.row_semantics.specs.Kinds.{regular_of}

@@ -1,10 +1,8 @@
 use Rattle.std.proofs.Common.{ℕ, List, [], ◌∷◌, ◌++◌, ap, sym, ◌∙◌}
 use Rattle.std.proofs.lemmas.List.{append-nil}
 use Rattle.std.proofs.lemmas.Result.{err_from_is_err_and}
-use Rattle.esql_types.specs.declared.maker.PatternError.{PatternError}
-use Rattle.expression_analysis.specs.declared.error.AnalyzeError.{AnalyzeError}
-use Rattle.expression_analysis.specs.Steps.{marks_of, if_read, IsErrorOf}
-use Rattle.expression_analysis.proofs.Regexes.{free_at, free_accepted, free_error, marks_same}
+use Rattle.expression_analysis.specs.Steps.{marks_of}
+use Rattle.expression_analysis.proofs.Regexes.{free_accepted, free_error, marks_same}
 use Rattle.expression_analysis.proofs.patterns.add_free.Goals as goal
 
 pub returns-in_ok-push-in-Ok : goal.returns-in_ok-push-in-Ok
