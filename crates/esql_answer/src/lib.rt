@@ -7,8 +7,6 @@ mod answered;
 mod answering;
 mod prepared;
 mod query;
-#[cfg(test)]
-mod tests;
 
 pub use answered::Answer;
 pub use answering::answer;
