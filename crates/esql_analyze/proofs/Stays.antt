@@ -14,7 +14,7 @@ use Rattle.row_semantics.specs.Forms.{Part, Seen, constant, named, same, applied
 use Rattle.row_semantics.specs.Regulars.{Regular, is_accepted}
 use Rattle.row_semantics.specs.Scopes.{Broken, Standing, elsewhere, in_field, in_aggregate, Scope}
 use Rattle.row_semantics.specs.Kinds.{Judged, judged, breaks, and_then, kinds_of_parts, kind_of_applied, wrong_literal, regular_of, first_place, if_accepted, fitting, kind_of_argument, kind_of_aggregate, kind_of_standing, kind_or_rule}
-use Rattle.written_laws.proofs.Readings.{parts_with, seen_with, read_made}
+use Rattle.query_semantics.proofs.Readings.{parts_with, seen_with, read_made}
 use Rattle.expression_analysis.specs.Answers.{accepted_but, same_span}
 
 -- the judgement is as it was, or refuses at the place

@@ -20,8 +20,8 @@ use Rattle.row_semantics.specs.Columns.{names_of}
 use Rattle.row_semantics.specs.Sources.{table_named, with_column, clashes, with_table, with_tables, columns_of_tables, columns_or_none}
 use Rattle.query_semantics.specs.Catalogs.{entries_of, IsCatalog}
 use Rattle.query_semantics.specs.Written.{writing_of_columns, numbered_from, write_source}
-use Rattle.written_laws.proofs.Kinded.{found_of, ok_is}
-use Rattle.written_laws.proofs.Ordered.{tables_distinct}
+use Rattle.query_semantics.proofs.Kinded.{found_of, ok_is}
+use Rattle.query_semantics.proofs.Ordered.{tables_distinct}
 use Rattle.esql_analyze.specs.Writings.{HasRoom}
 use Rattle.esql_analyze.proofs.Rooms.{fields_room}
 

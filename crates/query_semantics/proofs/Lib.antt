@@ -1,2 +1,9 @@
 pub mod ExprPlaces
 pub mod ShapePlaces
+pub mod Readings
+pub mod Valued
+pub mod Kinded
+pub mod Squares
+pub mod Distinct
+pub mod Named
+pub mod Ordered

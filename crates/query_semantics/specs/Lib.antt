@@ -6,3 +6,4 @@ pub mod Meaning
 pub mod Places
 pub mod Built
 pub mod Catalogs
+pub mod Named

@@ -1,7 +1,7 @@
 //! What a query means: the columns after each command, or the first rule that is broken; the rows of names and what fails on
 //! the way; and the plan that it is written as.
 //!
-//! Read its specs in this order: `Shapes`, `Commands`, `Cuts`, `Meaning`, `Written`, `Built`, `Catalogs`.
+//! Read its specs in this order: `Shapes`, `Commands`, `Cuts`, `Meaning`, `Written`, `Named`, `Built`, `Catalogs`.
 #![tactic(auto)]
 
 mod laws;

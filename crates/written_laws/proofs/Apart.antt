@@ -27,14 +27,14 @@ use Rattle.query_semantics.specs.Commands.{names_in}
 use Rattle.query_semantics.specs.Meaning.{meaning_of, AreRowsOf}
 use Rattle.query_semantics.specs.Shapes.{Context, scope_over, shape_of_field, shape_of_fields, shape_of_kind, unless_empty, shape_of_command, shape_of_commands, shape_of_source, shape_of}
 use Rattle.query_semantics.specs.Written.{Writing, writing_of}
-use Rattle.written_laws.specs.Named.{named_row}
-use Rattle.written_laws.proofs.Kinded.{found_of, ok_is}
-use Rattle.written_laws.proofs.Named.{names_in-named, names_of-columns}
+use Rattle.query_semantics.specs.Named.{named_row}
+use Rattle.query_semantics.proofs.Kinded.{found_of, ok_is}
+use Rattle.query_semantics.proofs.Named.{names_in-named, names_of-columns}
 use Rattle.written_laws.proofs.Shown.{unmet_is, missing_is, empty_is, condition_shows}
 use Rattle.written_laws.proofs.Whole.{start_of, rows_are, columns_are}
-use Rattle.written_laws.proofs.Distinct.{AreDistinct, distinct_nil, distinct_put}
+use Rattle.query_semantics.proofs.Distinct.{AreDistinct, distinct_nil, distinct_put}
 use Rattle.written_laws.proofs.NamesKept.{columns_keep, columns_drop, columns_rename}
-use Rattle.written_laws.proofs.Ordered.{tables_distinct}
+use Rattle.query_semantics.proofs.Ordered.{tables_distinct}
 
 -- names that differ -----------------------------------------------------------------------------------------------------
 

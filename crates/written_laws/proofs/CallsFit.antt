@@ -22,10 +22,10 @@ use Rattle.row_semantics.specs.Forms.{Part, applied, is_word, function_in_plan, 
 use Rattle.row_semantics.specs.Scopes.{Broken, Scope}
 use Rattle.row_semantics.specs.Kinds.{Judged, and_then, kinds_of_parts, kind_of_applied, fitting, first_place, wrong_literal, judged}
 use Rattle.row_semantics.specs.Typed.{Visible, Typing, literals_of, whole_of, free_of, pattern_number, typed_parts, typed_applied, typing}
-use Rattle.written_laws.proofs.Readings.{part_with, parts_with}
-use Rattle.written_laws.proofs.Valued.{function_with, arguments_with}
-use Rattle.written_laws.proofs.Squares.{map_map, map_same}
-use Rattle.written_laws.proofs.Kinded.{StandsOver, Both, typing_in, judged_in, found_of, parts_kinded, arguments_have, kinds_typed}
+use Rattle.query_semantics.proofs.Readings.{part_with, parts_with}
+use Rattle.query_semantics.proofs.Valued.{function_with, arguments_with}
+use Rattle.query_semantics.proofs.Squares.{map_map, map_same}
+use Rattle.query_semantics.proofs.Kinded.{StandsOver, Both, typing_in, judged_in, found_of, parts_kinded, arguments_have, kinds_typed}
 use Rattle.written_laws.proofs.Numbers.{HasAt, at-append}
 use Rattle.written_laws.proofs.RowsFit.{HasPattern, IsCount}
 use Rattle.written_laws.proofs.WantsFit.{are_plain, all_plain_fit, wants_plain, number_is}

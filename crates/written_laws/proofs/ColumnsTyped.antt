@@ -14,8 +14,8 @@ use Rattle.esql_plan.proofs.TypedFolds.{columns_of_constant, columns_of_column, 
 use Rattle.plan_semantics.specs.WellFormed.{MadeColumn, IsMadeAs}
 use Rattle.row_semantics.specs.Forms.{Part, Seen, constant, named, same, applied, aggregate, refused, Reader, read_by, function_in_plan, arguments_in_plan}
 use Rattle.row_semantics.specs.Typed.{Visible, Typing, visible_named, typed_null, typed_column, typed_parts, typing, typed_of}
-use Rattle.written_laws.proofs.Readings.{part_with, parts_with, seen_with, read_made}
-use Rattle.written_laws.proofs.Valued.{arguments_with}
+use Rattle.query_semantics.proofs.Readings.{part_with, parts_with, seen_with, read_made}
+use Rattle.query_semantics.proofs.Valued.{arguments_with}
 
 -- a column that can be seen, or that is read, is made with its kind
 abbrev pub OutIsMade : List MadeColumn → OutColumn → Type 0

@@ -20,10 +20,10 @@ use Rattle.row_semantics.specs.Rows.{Row, put}
 use Rattle.row_semantics.specs.Fields.{name_of_field}
 use Rattle.query_semantics.specs.Commands.{value_in_row, row_with_field, rows_of_fields, failures_of_fields, failures_of_expr, rows_of_condition, failures_of_rows, rows_of_kind, failures_of_kind, rows_of_commands, failures_of_commands, kept_of_row, left_of_row, renamed_row}
 use Rattle.query_semantics.specs.Written.{Writing, column_at, put_visible, typed_in, write_field, write_fields, write_kind, write_command}
-use Rattle.written_laws.specs.Named.{named_row}
-use Rattle.written_laws.proofs.Squares.{map_square, map_map, map_same, flat_map_square, filter_square, filter_each}
-use Rattle.written_laws.proofs.Named.{AllBelow, named_put, below_put, kept-named, left-named, renamed-named, below-places, below-renamed}
-use Rattle.written_laws.proofs.Valued.{expr_valued}
+use Rattle.query_semantics.specs.Named.{named_row}
+use Rattle.query_semantics.proofs.Squares.{map_square, map_map, map_same, flat_map_square, filter_square, filter_each}
+use Rattle.query_semantics.proofs.Named.{AllBelow, named_put, below_put, kept-named, left-named, renamed-named, below-places, below-renamed}
+use Rattle.query_semantics.proofs.Valued.{expr_valued}
 
 -- what has been written stands for rows of names and the failures on the way, over the rows that the source gives
 pub record Stands (start : List NumberedRow) (rows : List Row) (failures : List Failure) (writing : Writing) : Type 0 where

@@ -30,8 +30,8 @@ use Rattle.row_semantics.specs.Forms.{Part, Seen, constant, named, same, applied
 use Rattle.row_semantics.specs.Scopes.{Scope}
 use Rattle.row_semantics.specs.Kinds.{Judged, judged, kind_or_rule}
 use Rattle.row_semantics.specs.Typed.{Visible, CallColumn, Typing, visible_named, call_at, typed_null, typed_column, typed_call, typing, typing_of, typed_of}
-use Rattle.written_laws.proofs.Readings.{seen_with, read_made}
-use Rattle.written_laws.proofs.Kinded.{StandsOver, Both, typing_in, judged_in, both}
+use Rattle.query_semantics.proofs.Readings.{seen_with, read_made}
+use Rattle.query_semantics.proofs.Kinded.{StandsOver, Both, typing_in, judged_in, both}
 use Rattle.written_laws.proofs.Numbers.{HasAt}
 use Rattle.written_laws.proofs.RowsFit.{RowFits, CastFits, named_fits, cast_fits}
 use Rattle.written_laws.proofs.KindsOfValues.{HaveKind, list_has}

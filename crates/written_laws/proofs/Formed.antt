@@ -15,7 +15,7 @@ use Rattle.query_semantics.specs.Catalogs.{IsCatalog}
 use Rattle.query_semantics.specs.Cuts.{last_count}
 use Rattle.query_semantics.specs.Shapes.{Context, shape_of, shape_of_source, shape_of_commands}
 use Rattle.query_semantics.specs.Written.{Writing, source_in_plan, write_source, writing_of, written_of}
-use Rattle.written_laws.proofs.Kinded.{found_of}
+use Rattle.query_semantics.proofs.Kinded.{found_of}
 use Rattle.written_laws.proofs.Shown.{source_shows}
 use Rattle.written_laws.proofs.Numbers.{all_at}
 use Rattle.written_laws.proofs.NodesWritten.{written_below}

@@ -1,15 +1,8 @@
-pub mod Readings
-pub mod Valued
-pub mod Kinded
-pub mod Squares
-pub mod Named
 pub mod Commands
 pub mod Sources
 pub mod Shown
 pub mod Whole
-pub mod Distinct
 pub mod NamesKept
-pub mod Ordered
 pub mod Apart
 pub mod Limits
 pub mod NodesTyped

@@ -11,8 +11,8 @@ use Rattle.plan_semantics.specs.WellFormed.{nodes_of}
 use Rattle.plan_semantics.proofs.PartedFolds.{nodes_of_constant, nodes_of_column, nodes_of_call}
 use Rattle.row_semantics.specs.Forms.{Part, Seen, constant, named, same, applied, aggregate, refused, Reader, read_by, function_in_plan, arguments_in_plan}
 use Rattle.row_semantics.specs.Typed.{Visible, CallColumn, Typing, visible_named, call_at, typed_null, typed_column, typed_call, typed_parts, typing, typed_of}
-use Rattle.written_laws.proofs.Readings.{part_with, parts_with, seen_with, read_made}
-use Rattle.written_laws.proofs.Valued.{arguments_with}
+use Rattle.query_semantics.proofs.Readings.{part_with, parts_with, seen_with, read_made}
+use Rattle.query_semantics.proofs.Valued.{arguments_with}
 
 -- the nodes of parts, one part after another
 abbrev pub nodes_in_parts : List (Part (List NodeId)) → List NodeId

@@ -23,9 +23,9 @@ use Rattle.row_semantics.specs.Columns.{names_of, put_column, column_as}
 use Rattle.row_semantics.specs.Sources.{columns_of_tables, columns_or_none}
 use Rattle.query_semantics.specs.Shapes.{Context, Shape, scope_over, shape_of_field, shape_of_fields, shape_of_condition, unless_unmet, unless_missing, shape_of_kind, unless_empty, shape_of_command, shape_of_commands, shape_of_source}
 use Rattle.query_semantics.specs.Written.{Writing, typed_in, write_field, write_fields, write_kind, write_command, write_source, writing_of_columns}
-use Rattle.written_laws.proofs.Named.{columns_put, columns-kept, columns-left, columns-renamed}
-use Rattle.written_laws.proofs.Kinded.{found_of, ok_is, expr_kinded}
-use Rattle.written_laws.proofs.Sources.{columns_of-numbered}
+use Rattle.query_semantics.proofs.Named.{columns_put, columns-kept, columns-left, columns-renamed}
+use Rattle.query_semantics.proofs.Kinded.{found_of, ok_is, expr_kinded}
+use Rattle.query_semantics.proofs.Named.{columns_of-numbered}
 
 -- the columns that can be seen are these
 abbrev pub Shows : Writing → List Column → Type 0

@@ -15,8 +15,8 @@ use Rattle.row_semantics.specs.Sources.{tables_named, columns_of_tables, columns
 use Rattle.query_semantics.specs.Catalogs.{IsCatalog}
 use Rattle.query_semantics.specs.Shapes.{Context, shape_of_source, unless_empty}
 use Rattle.query_semantics.specs.Written.{numbered_from, scan_column, writing_of_columns, source_in_plan, write_source}
-use Rattle.written_laws.proofs.Named.{IsBelow}
-use Rattle.written_laws.proofs.Kinded.{found_of}
+use Rattle.query_semantics.proofs.Named.{IsBelow}
+use Rattle.query_semantics.proofs.Kinded.{found_of}
 use Rattle.written_laws.proofs.Sources.{all_below}
 use Rattle.written_laws.proofs.ColumnsTyped.{OutIsMade}
 use Rattle.written_laws.proofs.TablesScanned.{HasKindOf, IsScanned, tables_scanned}

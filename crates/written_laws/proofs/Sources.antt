@@ -19,9 +19,9 @@ use Rattle.row_semantics.specs.declared.row.NamedCell.{NamedCell}
 use Rattle.row_semantics.specs.Sources.{tables_named, columns_of_tables, columns_or_none}
 use Rattle.query_semantics.specs.Meaning.{row_under, rows_under, rows_of_tables, one_row, rows_of_source, failures_of_source}
 use Rattle.query_semantics.specs.Written.{numbered_from, scan_column, writing_of_columns, source_in_plan, write_source}
-use Rattle.written_laws.specs.Named.{named_cell, named_row}
-use Rattle.written_laws.proofs.Squares.{map_all, map_map, map_same, flat_map_same, map-flat_map}
-use Rattle.written_laws.proofs.Named.{IsBelow, AllBelow}
+use Rattle.query_semantics.specs.Named.{named_cell, named_row}
+use Rattle.query_semantics.proofs.Squares.{map_all, map_map, map_same, flat_map_same, map-flat_map}
+use Rattle.query_semantics.proofs.Named.{IsBelow, AllBelow}
 use Rattle.written_laws.proofs.Commands.{Stands, fields_stand}
 
 eq_itself : (n : ℕ) → n == n ≡ true
@@ -62,10 +62,6 @@ scan_named next (column ∷ columns) own cells =
     (λ out from. ap (λ (b : Bool). record { name = out.name; cell = cond b (cell_named own cells column.name) (rest out.id.0) }) (eq_above next out.id.0 (omega (arith, from))))
     (numbered_from (next + 1) columns) (all_from (next + 1) columns) in
     λ i. record { name = column.name; cell = first i } ∷ (others ∙ scan_named (next + 1) columns own cells) i
-
-pub columns_of-numbered : (next : ℕ) (columns : List Column) → columns_of (numbered_from next columns) ≡ columns
-columns_of-numbered next [] = refl
-columns_of-numbered next (column ∷ columns) = ap (λ (these : List Column). column ∷ these) (columns_of-numbered (next + 1) columns)
 
 -- the rows of a table
 table_named : (columns : List Column) (table : Option TableHeld) → rows_under columns table ≡ map (named_row (numbered_from 0 columns)) (scan_table (scan_from 0 columns) table)

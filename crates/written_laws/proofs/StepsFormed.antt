@@ -27,8 +27,8 @@ use Rattle.row_semantics.specs.Columns.{put_column}
 use Rattle.row_semantics.specs.Typed.{typing_of}
 use Rattle.query_semantics.specs.Shapes.{Context, Shape, scope_over, shape_of_field, shape_of_fields, shape_of_condition, shape_of_kind, shape_of_command, shape_of_commands, unless_empty}
 use Rattle.query_semantics.specs.Written.{Writing, column_at, typed_in, put_visible, write_field, write_fields, write_condition, write_limit, write_kind, write_command}
-use Rattle.written_laws.proofs.Squares.{All-at_places, All-renamed_by}
-use Rattle.written_laws.proofs.Kinded.{found_of, expr_kinded}
+use Rattle.query_semantics.proofs.Squares.{All-at_places, All-renamed_by}
+use Rattle.query_semantics.proofs.Kinded.{found_of, expr_kinded}
 use Rattle.written_laws.proofs.Shown.{Shows, field_shows, command_shows}
 use Rattle.written_laws.proofs.Numbers.{HasAt, at-append}
 use Rattle.written_laws.proofs.ExprsFit.{expr_fits}

@@ -19,8 +19,8 @@ use Rattle.plan_semantics.specs.WellFormed.{kind_named}
 use Rattle.row_semantics.specs.Scopes.{Broken}
 use Rattle.row_semantics.specs.Columns.{names_of, HaveDistinctNames}
 use Rattle.row_semantics.specs.Sources.{number_of_table, table_named, with_number, with_column, clashes, with_table, with_tables}
-use Rattle.written_laws.proofs.Kinded.{found_of, ok_is}
-use Rattle.written_laws.proofs.Distinct.{IsOther, distinct_head, distinct_tail}
+use Rattle.query_semantics.proofs.Kinded.{found_of, ok_is}
+use Rattle.query_semantics.proofs.Distinct.{IsOther, distinct_head, distinct_tail}
 
 -- columns with one more -------------------------------------------------------------------------------------------------------
 

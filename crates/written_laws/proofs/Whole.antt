@@ -16,10 +16,10 @@ use Rattle.query_semantics.specs.Cuts.{last_count}
 use Rattle.query_semantics.specs.Meaning.{meaning_of, shown_under}
 use Rattle.query_semantics.specs.Shapes.{Context, shape_of, shape_of_source, shape_of_commands}
 use Rattle.query_semantics.specs.Written.{Writing, source_in_plan, write_source, writing_of, written_of}
-use Rattle.written_laws.specs.Named.{named_row}
-use Rattle.written_laws.proofs.Squares.{map_map, map_same}
-use Rattle.written_laws.proofs.Named.{cells_of-named}
-use Rattle.written_laws.proofs.Kinded.{found_of}
+use Rattle.query_semantics.specs.Named.{named_row}
+use Rattle.query_semantics.proofs.Squares.{map_map, map_same}
+use Rattle.query_semantics.proofs.Named.{cells_of-named}
+use Rattle.query_semantics.proofs.Kinded.{found_of}
 use Rattle.written_laws.proofs.Commands.{commands_stand, limit_stands}
 use Rattle.written_laws.proofs.Sources.{source_stands}
 use Rattle.written_laws.proofs.Shown.{source_shows, commands_show}

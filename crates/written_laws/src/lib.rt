@@ -1,7 +1,7 @@
 //! The plan that a query is written as means what the query means; the rows of a query have the columns of its shape, whose
 //! names differ; LIMIT drops no failure; and the plan is well formed and orderly.
 //!
-//! Read its specs in this order: `Named`, `Laws`.
+//! Read its specs: `Laws`.
 #![tactic(auto)]
 
 mod laws;

@@ -2,7 +2,7 @@ use Rattle.std.proofs.Common.{List, ℕ, refl, sym, ap, ◌∙◌}
 use Rattle.esql_ast.specs.NameRules.{keep_places, at_places}
 use Rattle.plan_semantics.specs.Plans.{columns_of}
 use Rattle.row_semantics.specs.Columns.{names_of}
-use Rattle.written_laws.proofs.Named.{names_of-columns}
+use Rattle.query_semantics.proofs.Named.{names_of-columns}
 use Rattle.esql_analyze.specs.Writings.{joined}
 use Rattle.esql_analyze.proofs.NameWrites.{kept_writes, pattern_told}
 use Rattle.esql_analyze.proofs.names.write_keep.Goals as goal

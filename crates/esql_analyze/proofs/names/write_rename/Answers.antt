@@ -2,7 +2,7 @@ use Rattle.std.proofs.Common.{refl, sym, ◌∙◌}
 use Rattle.esql_ast.specs.NameRules.{renamings, renamed_by}
 use Rattle.plan_semantics.specs.Plans.{columns_of}
 use Rattle.row_semantics.specs.Columns.{names_of, column_as}
-use Rattle.written_laws.proofs.Named.{names_of-columns}
+use Rattle.query_semantics.proofs.Named.{names_of-columns}
 use Rattle.esql_analyze.proofs.NameWrites.{renamed_writes, pair_told}
 use Rattle.esql_analyze.proofs.names.write_rename.Goals as goal
 

@@ -17,9 +17,9 @@ use Rattle.row_semantics.specs.declared.row.NamedCell.{NamedCell}
 use Rattle.row_semantics.specs.Rows.{Row, put}
 use Rattle.row_semantics.specs.Columns.{names_of, put_column, column_as}
 use Rattle.query_semantics.specs.Commands.{names_in, cells_of, kept_of_row, left_of_row, renamed_row, cell_as}
-use Rattle.query_semantics.specs.Written.{put_visible, visible_names, visible_as, column_at}
-use Rattle.written_laws.specs.Named.{named_cell, named_row}
-use Rattle.written_laws.proofs.Squares.{map_all, map_map, filter_square, at_places-map, renamed_by-map, All-at_places, All-renamed_by}
+use Rattle.query_semantics.specs.Written.{put_visible, visible_names, visible_as, column_at, numbered_from}
+use Rattle.query_semantics.specs.Named.{named_cell, named_row}
+use Rattle.query_semantics.proofs.Squares.{map_all, map_map, filter_square, at_places-map, renamed_by-map, All-at_places, All-renamed_by}
 
 -- the numbers are below the next one
 abbrev pub IsBelow : ℕ → OutColumn → Type 0
@@ -125,3 +125,8 @@ below-places next places visible below = All-at_places (IsBelow next) places vis
 
 pub below-renamed : (next : ℕ) (these : List Renaming) (visible : List OutColumn) → AllBelow next visible → AllBelow next (renamed_by visible_as these visible)
 below-renamed next these visible below = All-renamed_by (IsBelow next) visible_as (λ name column less. less) these visible below
+
+-- columns that are numbered in turn are the same columns
+pub columns_of-numbered : (next : ℕ) (columns : List Column) → columns_of (numbered_from next columns) ≡ columns
+columns_of-numbered next [] = refl
+columns_of-numbered next (column ∷ columns) = ap (λ (these : List Column). column ∷ these) (columns_of-numbered (next + 1) columns)

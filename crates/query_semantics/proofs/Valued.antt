@@ -15,8 +15,8 @@ use Rattle.row_semantics.specs.Rows.{cell_at}
 use Rattle.row_semantics.specs.Typed.{Visible, CallColumn, Typing, visible_named, call_at, typed_null, typed_column, typed_call, typed_parts, typing, typed_of}
 use Rattle.row_semantics.specs.Meanings.{Given, cell_of_call, valued, value_on}
 use Rattle.query_semantics.specs.Commands.{value_in_row}
-use Rattle.written_laws.specs.Named.{named_row, call_cell, given_of}
-use Rattle.written_laws.proofs.Readings.{part_with, parts_with, seen_with, read_made}
+use Rattle.query_semantics.specs.Named.{named_row, call_cell, given_of}
+use Rattle.query_semantics.proofs.Readings.{part_with, parts_with, seen_with, read_made}
 
 -- the typed form of an expression and its value by names, which are the same
 record Both : Type 0 where

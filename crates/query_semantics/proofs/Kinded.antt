@@ -17,8 +17,8 @@ use Rattle.row_semantics.specs.Regulars.{Regular}
 use Rattle.row_semantics.specs.Scopes.{Broken, Scope, elsewhere, column_named}
 use Rattle.row_semantics.specs.Kinds.{Judged, and_then, kinds_of_parts, kind_of_column, kind_of_applied, kind_of_standing, fitting, if_accepted, judged, kind_or_rule}
 use Rattle.row_semantics.specs.Typed.{Visible, Typing, visible_named, typed_column, typed_parts, typing, typed_of}
-use Rattle.written_laws.proofs.Readings.{part_with, parts_with, seen_with, read_made}
-use Rattle.written_laws.proofs.Valued.{function_with, arguments_with}
+use Rattle.query_semantics.proofs.Readings.{part_with, parts_with, seen_with, read_made}
+use Rattle.query_semantics.proofs.Valued.{function_with, arguments_with}
 
 -- an expression stands outside STATS, over the columns that can be seen
 pub record StandsOver (visible : Visible) (scope : Scope) : Type 0 where

@@ -14,8 +14,8 @@ use Rattle.esql_plan.specs.declared.catalog.TableShape.{TableShape}
 use Rattle.row_semantics.specs.Scopes.{Broken}
 use Rattle.row_semantics.specs.Columns.{names_of, HaveDistinctNames}
 use Rattle.row_semantics.specs.Sources.{table_named, with_column, clashes, with_table, with_tables, columns_of_tables}
-use Rattle.written_laws.proofs.Kinded.{found_of, ok_is}
-use Rattle.written_laws.proofs.Distinct.{AreDistinct, IsOther, each_weaker, distinct_nil, distinct_cons}
+use Rattle.query_semantics.proofs.Kinded.{found_of, ok_is}
+use Rattle.query_semantics.proofs.Distinct.{AreDistinct, IsOther, each_weaker, distinct_nil, distinct_cons}
 
 abbrev order_of : List ℕ → List ℕ → Ordering
 order_of this that = slice_cmp nat_cmp this that
