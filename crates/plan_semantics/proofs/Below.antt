@@ -2,18 +2,21 @@
 use Rattle.std.proofs.Common.{◌≡◌, ℕ, ◌≤◌, ◌<◌, ◌==◌, nat_lt, Bool, true, false, List, [], ◌∷◌, ◌++◌, map, filter, All, refl, ap, sym, ◌∙◌, arith, cond, if◌then◌else◌}
 use Rattle.std.specs.List.{flat_map}
 use Rattle.std.proofs.lemmas.Bool.Decides.{nat_tests}
-use Rattle.std.proofs.lemmas.List.Elements.{All-nil, All-cons, All-head, All-tail, All-append}
+use Rattle.std.proofs.lemmas.List.Elements.{All-nil, All-cons, All-head, All-tail, All-append, All-map, All-weaker}
+use Rattle.esql_types.specs.declared.cause.Cause.{Cause}
 use Rattle.esql_types.specs.declared.cause.Failure.{Failure}
 use Rattle.esql_types.specs.declared.names.NodeId.{NodeId}
 use Rattle.esql_plan.specs.declared.typed.TypedExpr.{TypedExpr}
 use Rattle.esql_plan.specs.declared.plan.OutColumn.{OutColumn}
+use Rattle.esql_plan.specs.declared.step.Aggregate.{Aggregate}
 use Rattle.esql_plan.specs.declared.step.Step.{Step}
 use Rattle.esql_plan.specs.declared.step.Step.TheVariants.{Eval, Filter, Sort, TopN, Limit, Expand, Stats, Dissect, Grok, Enrich}
-use Rattle.esql_plan.specs.Values.{NumberedRow, value_of_typed}
-use Rattle.plan_semantics.specs.Steps.{failures_after}
+use Rattle.esql_plan.specs.Rules.{multi_of}
+use Rattle.esql_plan.specs.Values.{NumberedRow, failures_at, value_of_typed}
+use Rattle.plan_semantics.specs.Steps.{step_fails, failures_after}
 use Rattle.plan_semantics.specs.Agrees.{causes_at}
 use Rattle.plan_semantics.specs.Parts.{parted, fails_in, parts_after, fails_at, count_of}
-use Rattle.plan_semantics.specs.WellFormed.{Bounds, MadeColumn, nodes_of, step_nodes, step_made, ExprStands, StepStands, StepsStand}
+use Rattle.plan_semantics.specs.WellFormed.{Bounds, MadeColumn, nodes_of, step_nodes, step_made, ExprStands, AggregateStands, StepStands, StepsStand}
 use Rattle.plan_semantics.specs.Laws.{AreBelow}
 use Rattle.plan_semantics.proofs.Transposed.{causes-append, uncounted, on, fails_first}
 use Rattle.plan_semantics.proofs.Failing.{none_fails, failures_by_parts}
@@ -77,6 +80,26 @@ value_below bounds made expr stands row = below_from bounds.nodes (value_of_type
     none_on : (node : NodeId) → count_of (fails_at node) (on (parted expr).parts row) ≤ 0 → causes_at node (fails_in (parted expr).parts row) ≡ []
     none_on node none = none_fails node row (parted expr).parts none
 
+at_below : (nodes : ℕ) (node : NodeId) → node.0 < nodes → (causes : List Cause) → AreBelow nodes (failures_at node causes)
+at_below nodes node below [] = All-nil (λ (failure : Failure). failure.node.0 < nodes)
+at_below nodes node below (cause ∷ causes) =
+    All-cons (λ (failure : Failure). failure.node.0 < nodes) (record { node = node; cause = cause }) (failures_at node causes) below (at_below nodes node below causes)
+
+-- what a step fails with on one row
+pub step_fails_below : (bounds : Bounds) (made : List MadeColumn) (step : Step) → StepStands bounds made step → (row : NumberedRow) → AreBelow bounds.nodes (step_fails step row)
+step_fails_below bounds made (Eval to expr) stands row = value_below bounds made expr stands.0 row
+step_fails_below bounds made (Filter node condition) stands row =
+    All-append (λ (failure : Failure). failure.node.0 < bounds.nodes) (value_of_typed condition row).failures (failures_at node (multi_of (value_of_typed condition row).cell))
+    (value_below bounds made condition stands.stands row) (at_below bounds.nodes node stands.below (multi_of (value_of_typed condition row).cell))
+step_fails_below bounds made (Expand id to) stands row = All-nil (λ (failure : Failure). failure.node.0 < bounds.nodes)
+step_fails_below bounds made (Sort keys) stands row = All-nil (λ (failure : Failure). failure.node.0 < bounds.nodes)
+step_fails_below bounds made (TopN keys count) stands row = All-nil (λ (failure : Failure). failure.node.0 < bounds.nodes)
+step_fails_below bounds made (Limit count) stands row = All-nil (λ (failure : Failure). failure.node.0 < bounds.nodes)
+step_fails_below bounds made (Stats aggregates groups) stands row = All-nil (λ (failure : Failure). failure.node.0 < bounds.nodes)
+step_fails_below bounds made (Dissect node input cutter to) stands row = absurd stands
+step_fails_below bounds made (Grok node input cutter to) stands row = absurd stands
+step_fails_below bounds made (Enrich policy on fields to) stands row = absurd stands
+
 step_below : (bounds : Bounds) (made : List MadeColumn) (step : Step) → StepStands bounds made step → All (IsBelow bounds.nodes) (step_nodes step)
 step_below bounds made (Eval to expr) stands = stands.0.nodes
 step_below bounds made (Filter node condition) stands =
@@ -85,7 +108,9 @@ step_below bounds made (Expand id to) stands = All-nil (IsBelow bounds.nodes)
 step_below bounds made (Sort keys) stands = All-nil (IsBelow bounds.nodes)
 step_below bounds made (TopN keys count) stands = All-nil (IsBelow bounds.nodes)
 step_below bounds made (Limit count) stands = All-nil (IsBelow bounds.nodes)
-step_below bounds made (Stats aggregates groups) stands = absurd stands
+step_below bounds made (Stats aggregates groups) stands =
+    All-map (IsBelow bounds.nodes) (λ (aggregate : Aggregate). aggregate.node) aggregates
+    (All-weaker (AggregateStands bounds made) (λ (aggregate : Aggregate). aggregate.node.0 < bounds.nodes) (λ aggregate own. own.below) aggregates stands.stand)
 step_below bounds made (Dissect node input cutter to) stands = absurd stands
 step_below bounds made (Grok node input cutter to) stands = absurd stands
 step_below bounds made (Enrich policy on fields to) stands = absurd stands

@@ -57,7 +57,7 @@ module _ (made : List MadeColumn) (row : NumberedRow) where
   step_kept bounds (Sort keys) stands = one_kept row (kept_itself made row)
   step_kept bounds (TopN keys count) stands = one_kept row (kept_itself made row)
   step_kept bounds (Limit count) stands = one_kept row (kept_itself made row)
-  step_kept bounds (Stats aggregates groups) stands = absurd stands
+  step_kept bounds (Stats aggregates groups) stands = All-nil (IsKept made row)
   step_kept bounds (Dissect node input cutter to) stands = absurd stands
   step_kept bounds (Grok node input cutter to) stands = absurd stands
   step_kept bounds (Enrich policy on fields to) stands = absurd stands

@@ -2,6 +2,7 @@ pub mod Splits
 pub mod Agreeing
 pub mod Reading
 pub mod Keeps
+pub mod MadeOnce
 pub mod PartedFolds
 pub mod Transposed
 pub mod Failing
@@ -10,8 +11,13 @@ pub mod OwnNodes
 pub mod ResultKinds
 pub mod ValueKinds
 pub mod RowKinds
+pub mod StatsKinds
+pub mod StepKinds
+pub mod SameValues
+pub mod Grouping
 pub mod RowByRow
 pub mod Standing
 pub mod Orderly
 pub mod Below
 pub mod Restricted
+pub mod Sorted

@@ -14,12 +14,12 @@ use Rattle.plan_semantics.proofs.Transposed.{count_of-append}
 
 -- the steps behind the first of steps that are orderly
 pub orderly_later : (step : Step) (steps : List Step) (rows : List NumberedRow) → AreOrderly (step ∷ steps) rows → AreOrderly steps (step_rows step rows)
-orderly_later step steps rows orderly node = omega (arith, orderly node, count_of-append (fails_at node) (over_rows (step_parts step) rows) (parts_after steps (step_rows step rows)))
+orderly_later step steps rows orderly node = omega (arith, orderly node, count_of-append (fails_at node) (step_parts step rows) (parts_after steps (step_rows step rows)))
 
 -- the first of steps that are orderly
 pub orderly_first : (step : Step) (steps : List Step) (rows : List NumberedRow) → AreOrderly (step ∷ steps) rows
-    → (node : NodeId) → count_of (fails_at node) (over_rows (step_parts step) rows) ≤ 1
-orderly_first step steps rows orderly node = omega (arith, orderly node, count_of-append (fails_at node) (over_rows (step_parts step) rows) (parts_after steps (step_rows step rows)))
+    → (node : NodeId) → count_of (fails_at node) (step_parts step rows) ≤ 1
+orderly_first step steps rows orderly node = omega (arith, orderly node, count_of-append (fails_at node) (step_parts step rows) (parts_after steps (step_rows step rows)))
 
 pub orderly_behind : (these those : List Step) (rows : List NumberedRow) → AreOrderly (these ++ those) rows → AreOrderly those (rows_after these rows)
 orderly_behind [] those rows orderly = orderly

@@ -1,5 +1,5 @@
 -- A plan whose parts have nodes of their own is orderly.
-use Rattle.std.proofs.Common.{◌≡◌, ℕ, ◌+◌, ◌≤◌, ◌==◌, Bool, true, false, List, [], ◌∷◌, ◌++◌, map, All, refl, ap, sym, subst, ◌∙◌, arith, cond, if◌then◌else◌}
+use Rattle.std.proofs.Common.{◌≡◌, ℕ, ◌+◌, ◌≤◌, ◌==◌, Bool, true, false, List, [], ◌∷◌, ◌++◌, map, length, All, refl, ap, sym, subst, ◌∙◌, arith, cond, if◌then◌else◌}
 use Rattle.std.specs.Prelude.{◌||◌, not}
 use Rattle.std.specs.List.{flat_map, AllZip, AllByRecursion, IsDistinct}
 use Rattle.std.proofs.lemmas.Map.Keys.{IsDistinct-head, IsDistinct-tail}
@@ -10,25 +10,28 @@ use Rattle.esql_types.specs.declared.cause.Failure.{Failure}
 use Rattle.esql_types.specs.declared.names.NodeId.{NodeId}
 use Rattle.esql_plan.specs.declared.function.Function.{Function}
 use Rattle.esql_plan.specs.declared.typed.TypedExpr.{TypedExpr}
+use Rattle.esql_plan.specs.declared.step.Aggregate.{Aggregate}
 use Rattle.esql_plan.specs.declared.step.Step.{Step}
 use Rattle.esql_plan.specs.declared.step.Step.TheVariants.{Eval, Filter, Sort, TopN, Limit, Expand, Stats, Dissect, Grok, Enrich}
 use Rattle.esql_plan.specs.Rules.{Rule, singles, each, list_and_singles, lists, tests, logic, membership, conditions, alternatives, truth_in, is_null, multi_of}
 use Rattle.esql_plan.specs.Functions.{rule_of}
 use Rattle.esql_plan.specs.Values.{NumberedRow, failures_at, is_met, cells_of, value_of_typed}
 use Rattle.esql_plan.proofs.Inductions.{typed_ind}
+use Rattle.plan_semantics.specs.Groups.{Entry, keys_of_groups, entries_of_key, aggregate_of, values_at}
+use Rattle.plan_semantics.specs.Stats.{entries_of}
 use Rattle.plan_semantics.specs.Steps.{step_rows}
-use Rattle.plan_semantics.specs.Parts.{FalliblePart, Parted, reached, parts_of_case, parts_of_coalesce, parts_of_all, parts_by, causes_by, own_part, parted, over_rows, condition_part, step_parts, parts_after, fails_at, count_of}
+use Rattle.plan_semantics.specs.Parts.{FalliblePart, Parted, reached, parts_of_case, parts_of_coalesce, parts_of_all, parts_by, causes_by, own_part, parted, over_rows, condition_part, aggregate_parts, step_parts, parts_after, fails_at, count_of}
 use Rattle.plan_semantics.specs.WellFormed.{nodes_of, step_nodes, HaveOwnNodes}
 use Rattle.plan_semantics.proofs.PartedFolds.{parted_of_constant, parted_of_column, parted_of_call, nodes_of_constant, nodes_of_column, nodes_of_call}
 use Rattle.plan_semantics.proofs.Transposed.{count_of-append}
 use Rattle.plan_semantics.proofs.Keeps.{other_number}
 
 -- the part fails at this node alone
-abbrev pub IsPartOf : NodeId → FalliblePart → Type 0
-IsPartOf own part = (node : NodeId) → own.0 == node.0 ≡ false → (row : NumberedRow) → fails_at node (part row) ≡ false
+abbrev pub IsPartOf : {Row : Type 0} → NodeId → (Row → List Failure) → Type 0
+IsPartOf {Row} own part = (node : NodeId) → own.0 == node.0 ≡ false → (row : Row) → fails_at node (part row) ≡ false
 
 -- each part has its node, in order
-abbrev pub AreOf : List NodeId → List FalliblePart → Type 0
+abbrev pub AreOf : {Row : Type 0} → List NodeId → List (Row → List Failure) → Type 0
 AreOf nodes parts = AllZip IsPartOf nodes parts
 
 of_both : (these : List NodeId) (xs : List FalliblePart) (those : List NodeId) (ys : List FalliblePart) → AreOf these xs → AreOf those ys → AreOf (these ++ those) (xs ++ ys)
@@ -113,19 +116,19 @@ has_own = typed_ind HasOwn (record {
       same_lists _ _ _ _ (nodes_of_call _ function args pattern refl) (parted_of_call _ function args pattern refl) (of_call own function args all);
 })
 
-step_own : (step : Step) → AreOf (step_nodes step) (step_parts step)
-step_own (Eval to expr) = has_own expr
-step_own (Filter node condition) =
+condition_own : (node : NodeId) (condition : TypedExpr) → AreOf (nodes_of condition ++ node ∷ []) ((parted condition).parts ++ condition_part node condition ∷ [])
+condition_own node condition =
     of_both (nodes_of condition) (parted condition).parts (node ∷ []) (condition_part node condition ∷ [])
     (has_own condition) ((λ other elsewhere row. elsewhere_quiet node other (multi_of (value_of_typed condition row).cell) elsewhere), tt)
-step_own (Expand id to) = tt
-step_own (Sort keys) = tt
-step_own (TopN keys count) = tt
-step_own (Limit count) = tt
-step_own (Stats aggregates groups) = tt
-step_own (Dissect node input cutter to) = tt
-step_own (Grok node input cutter to) = tt
-step_own (Enrich policy on fields to) = tt
+
+aggregates_own : (place : ℕ) (aggregates : List Aggregate) (entries : List Entry) → AreOf (map (λ (aggregate : Aggregate). aggregate.node) aggregates) (aggregate_parts place aggregates entries)
+aggregates_own place [] entries = tt
+aggregates_own place (aggregate ∷ aggregates) entries = (
+  λ node elsewhere key.
+      let own : List Entry = entries_of_key key entries in
+      elsewhere_quiet aggregate.node node (aggregate_of aggregate.function (length own) (values_at place own)).causes elsewhere,
+  aggregates_own (place + 1) aggregates entries,
+)
 
 -- counts ---------------------------------------------------------------------------------------------------------------------------------
 
@@ -140,7 +143,7 @@ module _ (node : NodeId) where
       elim (failure.node.0 == node.0) as (λ b. b || fails_at node xs ≡ false → b || fails_at node (xs ++ ys) ≡ false)
       [ true ↦ λ no. no | false ↦ λ no. both_quiet xs ys no second ] first
 
-  rows_quiet : (part : FalliblePart) → ((row : NumberedRow) → fails_at node (part row) ≡ false) → (rows : List NumberedRow) → fails_at node (flat_map part rows) ≡ false
+  rows_quiet : {Row : Type 0} (part : Row → List Failure) → ((row : Row) → fails_at node (part row) ≡ false) → (rows : List Row) → fails_at node (flat_map part rows) ≡ false
   rows_quiet part none [] = refl
   rows_quiet part none (row ∷ rows) = both_quiet (part row) (flat_map part rows) (none row) (rows_quiet part none rows)
 
@@ -150,7 +153,7 @@ module _ (node : NodeId) where
   one_counts false true so = absurd (let no : true ≡ false = so refl in cc)
   one_counts false false so = omega arith
 
-  pub parts_count : (nodes : List NodeId) (parts : List FalliblePart) → AreOf nodes parts → (rows : List NumberedRow) → count_of (fails_at node) (over_rows parts rows) ≤ places nodes
+  pub parts_count : {Row : Type 0} (nodes : List NodeId) (parts : List (Row → List Failure)) → AreOf nodes parts → (rows : List Row) → count_of (fails_at node) (over_rows parts rows) ≤ places nodes
   parts_count [] [] are rows = omega arith
   parts_count [] (part ∷ parts) are rows = absurd are
   parts_count (own ∷ nodes) [] are rows = absurd are
@@ -161,14 +164,29 @@ module _ (node : NodeId) where
         parts_count nodes parts are.1 rows,
       )
 
+  step_count : (step : Step) (rows : List NumberedRow) → count_of (fails_at node) (step_parts step rows) ≤ places (step_nodes step)
+  step_count (Eval to expr) rows = parts_count (nodes_of expr) (parted expr).parts (has_own expr) rows
+  step_count (Filter own condition) rows =
+      parts_count (nodes_of condition ++ own ∷ []) ((parted condition).parts ++ condition_part own condition ∷ []) (condition_own own condition) rows
+  step_count (Expand id to) rows = omega arith
+  step_count (Sort keys) rows = omega arith
+  step_count (TopN keys count) rows = omega arith
+  step_count (Limit count) rows = omega arith
+  step_count (Stats aggregates groups) rows =
+      let entries : List Entry = entries_of aggregates groups rows in
+      parts_count (map (λ (aggregate : Aggregate). aggregate.node) aggregates) (aggregate_parts 0 aggregates entries) (aggregates_own 0 aggregates entries) (keys_of_groups (length groups) entries)
+  step_count (Dissect own input cutter to) rows = omega arith
+  step_count (Grok own input cutter to) rows = omega arith
+  step_count (Enrich policy on fields to) rows = omega arith
+
   pub steps_count : (steps : List Step) (rows : List NumberedRow) → count_of (fails_at node) (parts_after steps rows) ≤ places (flat_map step_nodes steps)
   steps_count [] rows = omega arith
   steps_count (step ∷ steps) rows =
       omega (
         arith,
-        count_of-append (fails_at node) (over_rows (step_parts step) rows) (parts_after steps (step_rows step rows)),
+        count_of-append (fails_at node) (step_parts step rows) (parts_after steps (step_rows step rows)),
         count_of-append (λ (one : NodeId). one.0 == node.0) (step_nodes step) (flat_map step_nodes steps),
-        parts_count (step_nodes step) (step_parts step) (step_own step) rows,
+        step_count step rows,
         steps_count steps (step_rows step rows),
       )
 

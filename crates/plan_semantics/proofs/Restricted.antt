@@ -1,5 +1,5 @@
 -- Steps depend on the columns that they read alone.
-use Rattle.std.proofs.Common.{◌≡◌, ℕ, zero, suc, ◌==◌, Bool, true, false, List, [], ◌∷◌, ◌++◌, map, take, All, refl, ap, sym, subst, ◌∙◌, if◌then◌else◌}
+use Rattle.std.proofs.Common.{◌≡◌, ℕ, zero, suc, ◌==◌, Bool, true, false, List, [], ◌∷◌, ◌++◌, map, length, take, All, Option, Some, None, refl, ap, sym, subst, ◌∙◌, if◌then◌else◌}
 use Rattle.std.proofs.Math.Path.{fun_ext}
 use Rattle.std.specs.Prelude.{not}
 use Rattle.std.specs.List.{flat_map}
@@ -8,11 +8,14 @@ use Rattle.std.specs.declared.cmp.Ordering.{Ordering}
 use Rattle.std.proofs.lemmas.List.{map-append}
 use Rattle.std.proofs.lemmas.List.Elements.{All-nil, All-cons, All-head, All-tail, All-append}
 use Rattle.esql_types.specs.declared.value.Value.{Value}
+use Rattle.esql_types.specs.declared.names.ColId.{ColId}
 use Rattle.esql_types.specs.declared.names.NodeId.{NodeId}
 use Rattle.function_rules.specs.Lists.{put_in_order, sorted_by}
 use Rattle.esql_plan.specs.declared.function.Function.{Function}
 use Rattle.esql_plan.specs.declared.typed.TypedExpr.{TypedExpr}
 use Rattle.esql_plan.specs.declared.plan.OutColumn.{OutColumn}
+use Rattle.esql_plan.specs.declared.step.Aggregate.{Aggregate}
+use Rattle.esql_plan.specs.declared.step.GroupColumn.{GroupColumn}
 use Rattle.esql_plan.specs.declared.step.PlanKey.{PlanKey}
 use Rattle.esql_plan.specs.declared.step.Step.{Step}
 use Rattle.esql_plan.specs.declared.step.Step.TheVariants.{Eval, Filter, Sort, TopN, Limit, Expand, Stats, Dissect, Grok, Enrich}
@@ -24,10 +27,12 @@ use Rattle.esql_plan.proofs.TypedFolds.{map_map, columns_of_call}
 use Rattle.esql_plan.proofs.Inductions.{typed_ind}
 use Rattle.plan_semantics.specs.Tables.{with_cell}
 use Rattle.plan_semantics.specs.Orders.{order_of_cells, order_of_rows}
+use Rattle.plan_semantics.specs.Groups.{Entry, keys_of_groups, rows_of_groups, failures_of_groups}
+use Rattle.plan_semantics.specs.Stats.{input_cell, entry_of, entries_of, stats_row}
 use Rattle.plan_semantics.specs.Steps.{is_true, failures_of_condition, expanded, step_gives, step_fails, step_rows, step_failures}
 use Rattle.plan_semantics.specs.Plans.{shown_row}
-use Rattle.plan_semantics.specs.Parts.{FalliblePart, Parted, reached, parts_of_case, parts_of_coalesce, parts_of_all, parts_by, causes_by, own_part, parted, condition_part, over_rows, step_parts}
-use Rattle.plan_semantics.specs.Used.{restrict, ReadsUsed, StepReadsUsed, IsUsedOut, SameOn, SameAfter}
+use Rattle.plan_semantics.specs.Parts.{FalliblePart, Parted, reached, parts_of_case, parts_of_coalesce, parts_of_all, parts_by, causes_by, own_part, parted, condition_part, over_rows, aggregate_parts, step_parts}
+use Rattle.plan_semantics.specs.Used.{restrict, ReadsUsed, InputUsed, StatsReadUsed, StepReadsUsed, IsUsedOut, SameOn, SameAfter}
 use Rattle.plan_semantics.proofs.PartedFolds.{parted_of_constant, parted_of_column, parted_of_call}
 use Rattle.plan_semantics.proofs.Reading.{map_all, parts_read, one_used, value_restricted}
 use Rattle.plan_semantics.proofs.Failing.{parted_value}
@@ -209,7 +214,27 @@ module _ (uses : ℕ → Bool) where
   order_cut (key ∷ keys) all this that =
       let P : PlanKey → Type 0 = λ key. uses key.id.0 ≡ true in
       let own = All-head P key keys all in
-      λ i. ordering_then (order_of_cells key (one_used (uses key.id.0) (this key.id.0) own i) (one_used (uses key.id.0) (that key.id.0) own i)) (order_cut keys (All-tail P key keys all) this that i)
+      λ i. ordering_then (order_of_cells key.descending key.nulls_first (one_used (uses key.id.0) (this key.id.0) own i) (one_used (uses key.id.0) (that key.id.0) own i)) (order_cut keys (All-tail P key keys all) this that i)
+
+  input_cut : (input : Option ColId) → InputUsed uses input → (row : NumberedRow) → input_cell (cut row) input ≡ input_cell row input
+  input_cut None is row = refl
+  input_cut (Some id) is row = one_used (uses id.0) (row id.0) is
+
+  entry_cut : (aggregates : List Aggregate) (groups : List GroupColumn) → StatsReadUsed uses aggregates groups → (row : NumberedRow)
+      → entry_of aggregates groups (cut row) ≡ entry_of aggregates groups row
+  entry_cut aggregates groups reads row = λ i. record {
+    keys = map_all (λ (group : GroupColumn). uses group.id.0 ≡ true) (λ (group : GroupColumn). cut row group.id.0) (λ (group : GroupColumn). row group.id.0)
+        (λ group is. one_used (uses group.id.0) (row group.id.0) is) groups reads.keys i;
+    inputs = map_all (λ (aggregate : Aggregate). InputUsed uses aggregate.input) (λ (aggregate : Aggregate). input_cell (cut row) aggregate.input) (λ (aggregate : Aggregate). input_cell row aggregate.input)
+        (λ aggregate is. input_cut aggregate.input is row) aggregates reads.inputs i;
+  }
+
+  -- groups look at columns that are used alone
+  entries_cut : (aggregates : List Aggregate) (groups : List GroupColumn) → StatsReadUsed uses aggregates groups → (rows : List NumberedRow)
+      → entries_of aggregates groups (map cut rows) ≡ entries_of aggregates groups rows
+  entries_cut aggregates groups reads rows =
+      map_map (entry_of aggregates groups) cut rows
+      ∙ map_same (λ (row : NumberedRow). entry_of aggregates groups (cut row)) (entry_of aggregates groups) (entry_cut aggregates groups reads) rows
 
   -- steps ------------------------------------------------------------------------------------------------------------------------------------
 
@@ -229,7 +254,8 @@ module _ (uses : ℕ → Bool) where
       ∙ ap (map cut) (take_map cut count (sorted_by (order_of_rows keys) rows))
       ∙ rows_twice (take count (sorted_by (order_of_rows keys) rows))
   rows_cut (Limit count) reads rows = ap (map cut) (take_map cut count rows) ∙ rows_twice (take count rows)
-  rows_cut (Stats aggregates groups) reads rows = rows_twice rows
+  rows_cut (Stats aggregates groups) reads rows =
+      ap (λ (entries : List Entry). map cut (map (stats_row aggregates groups) (rows_of_groups (length groups) aggregates entries))) (entries_cut aggregates groups reads rows)
   rows_cut (Dissect node input cutter to) reads rows = rows_twice rows
   rows_cut (Grok node input cutter to) reads rows = rows_twice rows
   rows_cut (Enrich policy on fields to) reads rows = rows_twice rows
@@ -246,23 +272,39 @@ module _ (uses : ℕ → Bool) where
   fails_cut (Grok node input cutter to) reads row = refl
   fails_cut (Enrich policy on fields to) reads row = refl
 
-  step_steady : (step : Step) → StepReadsUsed uses step → All IsSteady (step_parts step)
-  step_steady (Eval to expr) reads = parts_steady expr reads
-  step_steady (Filter node condition) reads =
+  failures_cut : (step : Step) → StepReadsUsed uses step → (rows : List NumberedRow) → step_failures step (map cut rows) ≡ step_failures step rows
+  failures_cut (Eval to expr) reads rows = flat_square (step_fails (Eval to expr)) cut (fails_cut (Eval to expr) reads) rows
+  failures_cut (Filter node condition) reads rows = flat_square (step_fails (Filter node condition)) cut (fails_cut (Filter node condition) reads) rows
+  failures_cut (Expand id to) reads rows = flat_square (step_fails (Expand id to)) cut (fails_cut (Expand id to) reads) rows
+  failures_cut (Sort keys) reads rows = flat_square (step_fails (Sort keys)) cut (fails_cut (Sort keys) reads) rows
+  failures_cut (TopN keys count) reads rows = flat_square (step_fails (TopN keys count)) cut (fails_cut (TopN keys count) reads) rows
+  failures_cut (Limit count) reads rows = flat_square (step_fails (Limit count)) cut (fails_cut (Limit count) reads) rows
+  failures_cut (Stats aggregates groups) reads rows = ap (failures_of_groups (length groups) aggregates) (entries_cut aggregates groups reads rows)
+  failures_cut (Dissect node input cutter to) reads rows = flat_square (step_fails (Dissect node input cutter to)) cut (fails_cut (Dissect node input cutter to) reads) rows
+  failures_cut (Grok node input cutter to) reads rows = flat_square (step_fails (Grok node input cutter to)) cut (fails_cut (Grok node input cutter to) reads) rows
+  failures_cut (Enrich policy on fields to) reads rows = flat_square (step_fails (Enrich policy on fields to)) cut (fails_cut (Enrich policy on fields to) reads) rows
+
+  condition_steady : (node : NodeId) (condition : TypedExpr) → Reads condition → All IsSteady ((parted condition).parts ++ condition_part node condition ∷ [])
+  condition_steady node condition reads =
       All-append IsSteady (parted condition).parts (condition_part node condition ∷ []) (parts_steady condition reads)
       (All-cons IsSteady (condition_part node condition) [] (λ row. ap (λ (valued : Valued). failures_at node (multi_of valued.cell)) (value_cut condition reads row)) (All-nil IsSteady))
-  step_steady (Expand id to) reads = All-nil IsSteady
-  step_steady (Sort keys) reads = All-nil IsSteady
-  step_steady (TopN keys count) reads = All-nil IsSteady
-  step_steady (Limit count) reads = All-nil IsSteady
-  step_steady (Stats aggregates groups) reads = All-nil IsSteady
-  step_steady (Dissect node input cutter to) reads = All-nil IsSteady
-  step_steady (Grok node input cutter to) reads = All-nil IsSteady
-  step_steady (Enrich policy on fields to) reads = All-nil IsSteady
 
-  parts_cut : (step : Step) → StepReadsUsed uses step → (rows : List NumberedRow) → over_rows (step_parts step) (map cut rows) ≡ over_rows (step_parts step) rows
-  parts_cut step reads rows =
-      map_all IsSteady (λ (part : FalliblePart). flat_map part (map cut rows)) (λ (part : FalliblePart). flat_map part rows) (λ part steady. flat_square part cut steady rows) (step_parts step) (step_steady step reads)
+  over_cut : (parts : List FalliblePart) → All IsSteady parts → (rows : List NumberedRow) → over_rows parts (map cut rows) ≡ over_rows parts rows
+  over_cut parts steady rows =
+      map_all IsSteady (λ (part : FalliblePart). flat_map part (map cut rows)) (λ (part : FalliblePart). flat_map part rows) (λ part steady. flat_square part cut steady rows) parts steady
+
+  parts_cut : (step : Step) → StepReadsUsed uses step → (rows : List NumberedRow) → step_parts step (map cut rows) ≡ step_parts step rows
+  parts_cut (Eval to expr) reads rows = over_cut (parted expr).parts (parts_steady expr reads) rows
+  parts_cut (Filter node condition) reads rows = over_cut ((parted condition).parts ++ condition_part node condition ∷ []) (condition_steady node condition reads) rows
+  parts_cut (Expand id to) reads rows = refl
+  parts_cut (Sort keys) reads rows = refl
+  parts_cut (TopN keys count) reads rows = refl
+  parts_cut (Limit count) reads rows = refl
+  parts_cut (Stats aggregates groups) reads rows =
+      ap (λ (entries : List Entry). over_rows (aggregate_parts 0 aggregates entries) (keys_of_groups (length groups) entries)) (entries_cut aggregates groups reads rows)
+  parts_cut (Dissect node input cutter to) reads rows = refl
+  parts_cut (Grok node input cutter to) reads rows = refl
+  parts_cut (Enrich policy on fields to) reads rows = refl
 
   -- what steps that read used columns alone make of rows that are the same in these is the same in these
   pub same_after : (steps : List Step) → All (StepReadsUsed uses) steps → (xs ys : List NumberedRow) → SameOn uses xs ys → SameAfter uses steps xs ys
@@ -272,8 +314,8 @@ module _ (uses : ℕ → Bool) where
       let next : SameOn uses (step_rows step xs) (step_rows step ys) = sym (rows_cut step own xs) ∙ ap (λ (rows : List NumberedRow). map cut (step_rows step rows)) same ∙ rows_cut step own ys in
       let rest = same_after steps (All-tail (StepReadsUsed uses) step steps reads) (step_rows step xs) (step_rows step ys) next in
       let failures : step_failures step xs ≡ step_failures step ys =
-      sym (flat_square (step_fails step) cut (fails_cut step own) xs) ∙ ap (step_failures step) same ∙ flat_square (step_fails step) cut (fails_cut step own) ys in
-      let parts : over_rows (step_parts step) xs ≡ over_rows (step_parts step) ys = sym (parts_cut step own xs) ∙ ap (over_rows (step_parts step)) same ∙ parts_cut step own ys in
+      sym (failures_cut step own xs) ∙ ap (step_failures step) same ∙ failures_cut step own ys in
+      let parts : step_parts step xs ≡ step_parts step ys = sym (parts_cut step own xs) ∙ ap (step_parts step) same ∙ parts_cut step own ys in
       record { rows = rest.rows; failures = λ i. failures i ++ rest.failures i; parts = λ i. parts i ++ rest.parts i }
 
   shown_cut : (output : List OutColumn) → All (IsUsedOut uses) output → (row : NumberedRow) → shown_row output (cut row) ≡ shown_row output row

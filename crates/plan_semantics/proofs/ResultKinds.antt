@@ -219,7 +219,7 @@ module _ {Item : Type 0} (test : Item → Bool) where
   pub pass_one : (item : Item) → test item ≡ true → Pass (item ∷ [])
   pass_one item own = pass_both item [] own refl
 
-  pass_append : (xs ys : List Item) → Pass xs → Pass ys → Pass (xs ++ ys)
+  pub pass_append : (xs ys : List Item) → Pass xs → Pass ys → Pass (xs ++ ys)
   pass_append xs ys first second = list_all-append test xs ys ∙ and_from (list_all test xs) (list_all test ys) first second
 
   pass_filter : (keep : Item → Bool) (items : List Item) → Pass items → Pass (filter keep items)
@@ -259,7 +259,7 @@ module _ {Item : Type 0} (test : Item → Bool) where
     pass_least_from best (item ∷ items) own pass =
         pass_least_from (if is_lt (order item best) then item else best) items (pass_either (is_lt (order item best)) item best (pass_first item items pass) own) (pass_rest item items pass)
 
-    pass_least : (items : List Item) → Pass items → Pass (least_of order items)
+    pub pass_least : (items : List Item) → Pass items → Pass (least_of order items)
     pass_least [] pass = refl
     pass_least (item ∷ items) pass = pass_one (least_from order item items) (pass_least_from item items (pass_first item items pass) (pass_rest item items pass))
 
@@ -268,7 +268,7 @@ module _ {Item : Type 0} (test : Item → Bool) where
     pass_greatest_from best (item ∷ items) own pass =
         pass_greatest_from (if is_gt (order item best) then item else best) items (pass_either (is_gt (order item best)) item best (pass_first item items pass) own) (pass_rest item items pass)
 
-    pass_greatest : (items : List Item) → Pass items → Pass (greatest_of order items)
+    pub pass_greatest : (items : List Item) → Pass items → Pass (greatest_of order items)
     pass_greatest [] pass = refl
     pass_greatest (item ∷ items) pass = pass_one (greatest_from order item items) (pass_greatest_from item items (pass_first item items pass) (pass_rest item items pass))
 
@@ -284,7 +284,7 @@ module _ {Item : Type 0} (test : Item → Bool) where
     pass_sorted [] pass = refl
     pass_sorted (item ∷ items) pass = pass_put item (sorted_by order items) (pass_first item items pass) (pass_sorted items (pass_rest item items pass))
 
-  pass_distinct : (same : Item → Item → Bool) (items : List Item) → Pass items → Pass (distinct_of same items)
+  pub pass_distinct : (same : Item → Item → Bool) (items : List Item) → Pass items → Pass (distinct_of same items)
   pass_distinct same [] pass = refl
   pass_distinct same (item ∷ items) pass =
       pass_both item (filter (λ (other : Item). not (same item other)) (distinct_of same items)) (pass_first item items pass)
@@ -394,7 +394,7 @@ case_has wide node (first ∷ kind ∷ kinds) (condition ∷ part ∷ rest) have
 
 -- numbers ----------------------------------------------------------------------------------------------------------------------------------
 
-abbrev number_kind : Bool → Kind
+abbrev pub number_kind : Bool → Kind
 number_kind true = Integer
 number_kind false = Long
 
@@ -406,7 +406,7 @@ number_has false (Err ByZero) = refl
 number_has true (Err Overflow) = refl
 number_has false (Err Overflow) = refl
 
-sum_has : (integers : Bool) (total : Option ℤ) → Has (number_kind integers) (sum_given integers total).cell
+pub sum_has : (integers : Bool) (total : Option ℤ) → Has (number_kind integers) (sum_given integers total).cell
 sum_has true (Some total) = refl
 sum_has false (Some total) = refl
 sum_has true None = refl

@@ -1,5 +1,5 @@
 -- The rows and the failures of single steps.
-use Rattle.std.proofs.Common.{◌≡◌, ℕ, Bool, true, false, List, [], ◌∷◌, ◌++◌, map, filter, refl, ap, if◌then◌else◌}
+use Rattle.std.proofs.Common.{◌≡◌, ℕ, Bool, true, false, List, [], ◌∷◌, ◌++◌, map, filter, refl, ap, sym, ◌∙◌, if◌then◌else◌}
 use Rattle.std.specs.List.{flat_map}
 use Rattle.std.proofs.lemmas.List.Concat.{flat_map_single}
 use Rattle.std.proofs.lemmas.Grind.{flat_map-append}
@@ -9,10 +9,10 @@ use Rattle.esql_types.specs.declared.names.NodeId.{NodeId}
 use Rattle.esql_plan.specs.declared.typed.TypedExpr.{TypedExpr}
 use Rattle.esql_plan.specs.declared.step.PlanKey.{PlanKey}
 use Rattle.esql_plan.specs.declared.step.Step.{Step}
-use Rattle.esql_plan.specs.declared.step.Step.TheVariants.{Eval, Filter, Sort, TopN, Limit, Expand}
+use Rattle.esql_plan.specs.declared.step.Step.TheVariants.{Eval, Filter, Sort, TopN, Limit, Expand, Stats, Dissect, Grok, Enrich}
 use Rattle.esql_plan.specs.Values.{NumberedRow, value_of_typed}
 use Rattle.plan_semantics.specs.Tables.{with_cell}
-use Rattle.plan_semantics.specs.Steps.{is_true, step_rows, step_failures}
+use Rattle.plan_semantics.specs.Steps.{is_true, is_stats, step_fails, step_rows, step_failures}
 
 -- the items that pass a test, each as a list of one
 pub filtered_singly : {Item : Type 0} (test : Item → Bool) (items : List Item) → flat_map (λ (item : Item). if test item then item ∷ [] else []) items ≡ filter test items
@@ -46,5 +46,21 @@ step_failures-top keys count rows = none_of_any rows
 pub step_failures-expand : (id to : ColId) (rows : List NumberedRow) → step_failures (Expand id to) rows ≡ []
 step_failures-expand id to rows = none_of_any rows
 
-pub step_failures-append : (step : Step) (these those : List NumberedRow) → step_failures step (these ++ those) ≡ step_failures step these ++ step_failures step those
-step_failures-append step these those = flat_map-append _ these those
+-- a step that is no Stats fails row by row
+pub step_failures-rows : (step : Step) → is_stats step ≡ false → (rows : List NumberedRow) → step_failures step rows ≡ flat_map (step_fails step) rows
+step_failures-rows (Eval to expr) is rows = refl
+step_failures-rows (Filter node condition) is rows = refl
+step_failures-rows (Expand id to) is rows = refl
+step_failures-rows (Sort keys) is rows = refl
+step_failures-rows (TopN keys count) is rows = refl
+step_failures-rows (Limit count) is rows = refl
+step_failures-rows (Stats aggregates groups) is rows = absurd cc
+step_failures-rows (Dissect node input cutter to) is rows = refl
+step_failures-rows (Grok node input cutter to) is rows = refl
+step_failures-rows (Enrich policy on fields to) is rows = refl
+
+pub step_failures-append : (step : Step) → is_stats step ≡ false → (these those : List NumberedRow) → step_failures step (these ++ those) ≡ step_failures step these ++ step_failures step those
+step_failures-append step is these those =
+    step_failures-rows step is (these ++ those)
+    ∙ flat_map-append (step_fails step) these those
+    ∙ sym (λ i. step_failures-rows step is these i ++ step_failures-rows step is those i)

@@ -1,11 +1,11 @@
--- The rows of a well formed plan have cells of their kinds in the columns that are made.
+-- Rows that have cells of their kinds in the columns that are made, and those of a source.
 use Rattle.std.proofs.Common.{◌≡◌, ℕ, zero, suc, ◌==◌, Bool, true, false, List, [], ◌∷◌, map, All, Option, Some, None, option_map, slice_get, refl, ap, sym, subst, ◌∙◌, arith, if◌then◌else◌}
 use Rattle.std.specs.Prelude.{IfSome}
 use Rattle.std.specs.List.{flat_map, AllZip, AllByRecursion, IsDistinct}
 use Rattle.std.specs.Str.{bytes_eq}
 use Rattle.std.specs.Ordering.{is_gt}
 use Rattle.std.specs.declared.cmp.Ordering.{Ordering}
-use Rattle.std.proofs.lemmas.List.Elements.{All-nil, All-cons, All-head, All-tail, All-append, All-take, All-map, All-contains, All-weaker}
+use Rattle.std.proofs.lemmas.List.Elements.{All-nil, All-cons, All-head, All-tail, All-append, All-contains}
 use Rattle.std.proofs.lemmas.Option.{slice_get-map}
 use Rattle.std.proofs.lemmas.Map.Made.{Contains-tail}
 use Rattle.std.proofs.lemmas.Map.Keys.{IsDistinct-head, IsDistinct-tail}
@@ -16,24 +16,19 @@ use Rattle.esql_types.specs.declared.names.ColId.{ColId}
 use Rattle.function_rules.specs.Lists.{put_in_order, sorted_by}
 use Rattle.esql_plan.specs.declared.typed.TypedExpr.{TypedExpr}
 use Rattle.esql_plan.specs.declared.catalog.Catalog.{Catalog}
-use Rattle.esql_plan.specs.declared.plan.Plan.{Plan}
 use Rattle.esql_plan.specs.declared.plan.PlanSource.{PlanSource}
 use Rattle.esql_plan.specs.declared.plan.PlanSource.TheVariants.{OneRow, Scan}
 use Rattle.esql_plan.specs.declared.plan.ScanColumn.{ScanColumn}
 use Rattle.esql_plan.specs.declared.plan.OutColumn.{OutColumn}
 use Rattle.esql_plan.specs.declared.step.Step.{Step}
-use Rattle.esql_plan.specs.declared.step.Step.TheVariants.{Eval, Filter, Sort, TopN, Limit, Expand, Stats, Dissect, Grok, Enrich}
-use Rattle.esql_plan.specs.Values.{NumberedRow, value_of_typed}
+use Rattle.esql_plan.specs.Values.{NumberedRow}
 use Rattle.esql_plan.specs.Fits.{ReadColumn, RowFits, columns_read, has_kind}
 use Rattle.plan_semantics.specs.Tables.{TableHeld, catalog_tables, cell_named, empty_row, with_cell, scan_row, scan_table, source_rows}
-use Rattle.plan_semantics.specs.Orders.{order_of_rows}
-use Rattle.plan_semantics.specs.Steps.{is_true, expanded, step_gives, step_rows, rows_after}
 use Rattle.plan_semantics.specs.Plans.{columns_of, shown_row}
-use Rattle.plan_semantics.specs.WellFormed.{Bounds, MadeColumn, made_as, IsMadeAs, IsMade, IsNew, kind_made, source_made, step_made, steps_made, ExprStands, StepStands, StepsStand, SourceStands, IsScannedAs, kind_named, bounds_of, IsWellFormed, IsTable, AreTables, StepFits, StepsFit, RowHas}
+use Rattle.plan_semantics.specs.WellFormed.{Bounds, MadeColumn, made_as, IsMadeAs, IsMade, IsNew, kind_made, source_made, step_made, steps_made, ExprStands, StepsStand, SourceStands, IsScannedAs, kind_named, IsTable, RowHas}
 use Rattle.plan_semantics.specs.Laws.{IsKept}
 use Rattle.plan_semantics.proofs.Keeps.{kept_at_new}
-use Rattle.plan_semantics.proofs.ResultKinds.{Has, pass_one, pass_first, pass_rest, has_test}
-use Rattle.plan_semantics.proofs.ValueKinds.{value_has_kind}
+use Rattle.plan_semantics.proofs.ResultKinds.{Has}
 
 -- lists of rows ------------------------------------------------------------------------------------------------------------------------
 
@@ -71,7 +66,7 @@ kept_has (column ∷ made) before after kept has =
 own_number : (id : ℕ) → id == id ≡ true
 own_number id = grind arith
 
-put_there : (row : NumberedRow) (id : ℕ) (cell : List Value) → with_cell row id cell id ≡ cell
+pub put_there : (row : NumberedRow) (id : ℕ) (cell : List Value) → with_cell row id cell id ≡ cell
 put_there row id cell = ap (λ (b : Bool). if b then cell else row id) (own_number id)
 
 -- a row with a cell of its kind in a new column
@@ -96,7 +91,7 @@ pub expr_fits_row : (bounds : Bounds) (made : List MadeColumn) (expr : TypedExpr
 expr_fits_row bounds made expr stands row has = reads_fit made row has (columns_read expr) stands.reads
 
 -- the cell of a column has the kind that it is made with
-made_has : (made : List MadeColumn) (id : ColId) (row : NumberedRow) → IsMade made id → RowHas made row → Has (kind_made made id) (row id.0)
+pub made_has : (made : List MadeColumn) (id : ColId) (row : NumberedRow) → IsMade made id → RowHas made row → Has (kind_made made id) (row id.0)
 made_has [] id row is has = absurd (omega (arith, is.1))
 made_has (column ∷ made) id row is has = by_case (id.0 == column.id) refl (made_has made id row)
   where
@@ -109,87 +104,6 @@ made_has (column ∷ made) id row is has = by_case (id.0 == column.id) refl (mad
         let other : column.id ≡ id.0 → ⊥ = λ same. (let no : false ≡ true = sym here ∙ ap (λ number. id.0 == number) same ∙ own_number id.0 in cc) in
         subst (λ (b : Bool). Has (if b then column.kind else kind_made made id) (row id.0)) (sym here)
         (rest (Contains-tail column.id (map (λ (column : MadeColumn). column.id) made) id.0 other is) (All-tail (HasColumn row) column made has))
-
--- steps ------------------------------------------------------------------------------------------------------------------------------------
-
-abbrev StepKinds : List MadeColumn → Step → NumberedRow → Type 0
-StepKinds made step row = All (RowHas (step_made made step)) (step_gives step row)
-
-eval_kinds : (bounds : Bounds) (made : List MadeColumn) (to : ColId) (expr : TypedExpr) → StepStands bounds made (Eval to expr) → (row : NumberedRow) → RowHas made row
-    → StepKinds made (Eval to expr) row
-eval_kinds bounds made to expr stands row has =
-    let cell = (value_of_typed expr row).cell in
-    All-cons (RowHas (made_as to expr.kind ∷ made)) (with_cell row to.0 cell) []
-    (has_new made to expr.kind row cell stands.1.new (value_has_kind bounds.whole bounds.free row expr stands.0.fits (expr_fits_row bounds made expr stands.0 row has)) has)
-    (All-nil (RowHas (made_as to expr.kind ∷ made)))
-
-expand_kinds : (made : List MadeColumn) (to : ColId) (kind : Kind) (row : NumberedRow) → IsNew made to → RowHas made row → (values : List Value) → Has kind values
-    → All (RowHas (made_as to kind ∷ made)) (map (λ (one : Value). with_cell row to.0 (one ∷ [])) values)
-expand_kinds made to kind row new has [] own = All-nil (RowHas (made_as to kind ∷ made))
-expand_kinds made to kind row new has (value ∷ values) own =
-    All-cons (RowHas (made_as to kind ∷ made)) (with_cell row to.0 (value ∷ [])) (map (λ (one : Value). with_cell row to.0 (one ∷ [])) values)
-    (has_new made to kind row (value ∷ []) new (pass_one (has_test kind) value (pass_first (has_test kind) value values own)) has)
-    (expand_kinds made to kind row new has values (pass_rest (has_test kind) value values own))
-
-expanded_kinds : (made : List MadeColumn) (to : ColId) (kind : Kind) (row : NumberedRow) → IsNew made to → RowHas made row → (values : List Value) → Has kind values
-    → All (RowHas (made_as to kind ∷ made)) (expanded row to.0 values)
-expanded_kinds made to kind row new has [] own =
-    All-cons (RowHas (made_as to kind ∷ made)) (with_cell row to.0 []) [] (has_new made to kind row [] new refl has) (All-nil (RowHas (made_as to kind ∷ made)))
-expanded_kinds made to kind row new has (value ∷ values) own = expand_kinds made to kind row new has (value ∷ values) own
-
-if_kinds : (made : List MadeColumn) (row : NumberedRow) → RowHas made row → (b : Bool) → All (RowHas made) (if b then row ∷ [] else [])
-if_kinds made row has true = All-cons (RowHas made) row [] has (All-nil (RowHas made))
-if_kinds made row has false = All-nil (RowHas made)
-
--- the rows after a step have the columns that are made after it
-pub step_kinds : (bounds : Bounds) (made : List MadeColumn) (step : Step) → StepStands bounds made step → (rows : List NumberedRow) → All (RowHas made) rows
-    → All (RowHas (step_made made step)) (step_rows step rows)
-step_kinds bounds made (Eval to expr) stands rows has =
-    all_flat (RowHas made) (RowHas (made_as to expr.kind ∷ made)) (step_gives (Eval to expr)) (eval_kinds bounds made to expr stands) rows has
-step_kinds bounds made (Filter node condition) stands rows has =
-    all_flat (RowHas made) (RowHas made) (step_gives (Filter node condition)) (λ row own. if_kinds made row own (is_true (value_of_typed condition row).cell)) rows has
-step_kinds bounds made (Expand id to) stands rows has =
-    let kind = kind_made made id in
-    all_flat (RowHas made) (RowHas (made_as to kind ∷ made)) (step_gives (Expand id to))
-    (λ row own. expanded_kinds made to kind row stands.1.new own (row id.0) (made_has made id row stands.0 own)) rows has
-step_kinds bounds made (Sort keys) stands rows has = all_sorted (RowHas made) (order_of_rows keys) rows has
-step_kinds bounds made (TopN keys count) stands rows has = All-take (RowHas made) count (sorted_by (order_of_rows keys) rows) (all_sorted (RowHas made) (order_of_rows keys) rows has)
-step_kinds bounds made (Limit count) stands rows has = All-take (RowHas made) count rows has
-step_kinds bounds made (Stats aggregates groups) stands rows has = has
-step_kinds bounds made (Dissect node input cutter to) stands rows has = has
-step_kinds bounds made (Grok node input cutter to) stands rows has = has
-step_kinds bounds made (Enrich policy on fields to) stands rows has = has
-
-pub steps_kinds : (bounds : Bounds) (output : List OutColumn) (made : List MadeColumn) (steps : List Step) → StepsStand bounds output made steps
-    → (rows : List NumberedRow) → All (RowHas made) rows → All (RowHas (steps_made made steps)) (rows_after steps rows)
-steps_kinds bounds output made [] stands rows has = has
-steps_kinds bounds output made (step ∷ steps) stands rows has =
-    steps_kinds bounds output (step_made made step) steps stands.1 (step_rows step rows) (step_kinds bounds made step stands.0 rows has)
-
--- the expression of a step fits each row that has the columns that are made before it
-all_rows : (P : NumberedRow → Type 0) → ((row : NumberedRow) → P row) → (rows : List NumberedRow) → All P rows
-all_rows P each [] = All-nil P
-all_rows P each (row ∷ rows) = All-cons P row rows (each row) (all_rows P each rows)
-
-step_fits : (bounds : Bounds) (made : List MadeColumn) (step : Step) → StepStands bounds made step → (row : NumberedRow) → RowHas made row → StepFits step row
-step_fits bounds made (Eval to expr) stands row has = expr_fits_row bounds made expr stands.0 row has
-step_fits bounds made (Filter node condition) stands row has = expr_fits_row bounds made condition stands.stands row has
-step_fits bounds made (Expand id to) stands row has = tt
-step_fits bounds made (Sort keys) stands row has = tt
-step_fits bounds made (TopN keys count) stands row has = tt
-step_fits bounds made (Limit count) stands row has = tt
-step_fits bounds made (Stats aggregates groups) stands row has = tt
-step_fits bounds made (Dissect node input cutter to) stands row has = tt
-step_fits bounds made (Grok node input cutter to) stands row has = tt
-step_fits bounds made (Enrich policy on fields to) stands row has = tt
-
-pub steps_fit : (bounds : Bounds) (output : List OutColumn) (made : List MadeColumn) (steps : List Step) → StepsStand bounds output made steps
-    → (rows : List NumberedRow) → All (RowHas made) rows → StepsFit steps rows
-steps_fit bounds output made [] stands rows has = tt
-steps_fit bounds output made (step ∷ steps) stands rows has = (
-  All-weaker (RowHas made) (StepFits step) (step_fits bounds made step stands.0) rows has,
-  steps_fit bounds output (step_made made step) steps stands.1 (step_rows step rows) (step_kinds bounds made step stands.0 rows has),
-)
 
 -- the columns that are shown ----------------------------------------------------------------------------------------------------------------
 
@@ -281,23 +195,3 @@ source_kinds catalog bounds tables shapes all (Scan numbers scanned) stands =
     (subst (λ found. IfSome found (λ shape. All (GivesScanKind shape.columns) scanned))
     (ap (λ these. slice_get these number) shapes ∙ slice_get-map (λ (table : TableHeld). table.shape) tables number) is.kinds))
     numbers stands.tables
-
--- plans ------------------------------------------------------------------------------------------------------------------------------------------
-
-module _ (catalog : Catalog) (whole free : List (List ℕ)) (plan : Plan) (tables : List TableHeld) (well : IsWellFormed catalog whole free plan) (are : AreTables catalog tables) where
-  start : All (RowHas (source_made plan.source)) (source_rows tables plan.source)
-  start = source_kinds catalog (bounds_of whole free plan) tables are.shapes are.kinds plan.source well.source
-
-  pub plan_fits_rows : StepsFit plan.steps (source_rows tables plan.source)
-  plan_fits_rows = steps_fit (bounds_of whole free plan) plan.output (source_made plan.source) plan.steps well.steps (source_rows tables plan.source) start
-
-  pub plan_kinds : All (RowHas (steps_made (source_made plan.source) plan.steps)) (rows_after plan.steps (source_rows tables plan.source))
-  plan_kinds = steps_kinds (bounds_of whole free plan) plan.output (source_made plan.source) plan.steps well.steps (source_rows tables plan.source) start
-
-  pub plan_shows_kinds : All (λ cells. AllZip CellFits (columns_of plan.output) cells) (map (shown_row plan.output) (rows_after plan.steps (source_rows tables plan.source)))
-  plan_shows_kinds =
-      let made = steps_made (source_made plan.source) plan.steps in
-      let rows = rows_after plan.steps (source_rows tables plan.source) in
-      All-map (λ cells. AllZip CellFits (columns_of plan.output) cells) (shown_row plan.output) rows
-      (All-weaker (RowHas made) (λ row. AllZip CellFits (columns_of plan.output) (shown_row plan.output row))
-      (λ row has. shown_kinds made row has plan.output (shown_made (bounds_of whole free plan) plan.output (source_made plan.source) plan.steps well.steps)) rows plan_kinds)

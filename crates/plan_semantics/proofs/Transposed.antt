@@ -8,7 +8,7 @@ use Rattle.esql_types.specs.declared.cause.Cause.{Cause}
 use Rattle.esql_types.specs.declared.cause.Failure.{Failure}
 use Rattle.esql_types.specs.declared.names.NodeId.{NodeId}
 use Rattle.plan_semantics.specs.Agrees.{causes_at}
-use Rattle.plan_semantics.specs.Parts.{fails_at, count_of}
+use Rattle.plan_semantics.specs.Parts.{over_rows, fails_at, count_of}
 
 -- a list is empty where what it is the front of is, and so is what stands behind it
 pub both_nil : {X : Type 0} (xs ys : List X) → xs ++ ys ≡ [] → (xs ≡ []) × (ys ≡ [])
@@ -26,10 +26,7 @@ by_rows parts rows = flat_map (λ row. flat_map (λ part. part row) parts) rows
 abbrev pub by_parts : {Row : Type 0} → List (Row → List Failure) → List Row → List Failure
 by_parts parts rows = flat_map (λ part. flat_map part rows) parts
 
--- what each part fails with over rows, and on one row
-abbrev pub over : {Row : Type 0} → List (Row → List Failure) → List Row → List (List Failure)
-over parts rows = map (λ part. flat_map part rows) parts
-
+-- what each part fails with on one row
 abbrev pub on : {Row : Type 0} → List (Row → List Failure) → Row → List (List Failure)
 on parts row = map (λ part. part row) parts
 
@@ -78,14 +75,14 @@ module _ (node : NodeId) where
   nothing (row ∷ rows) = nothing rows
 
   -- no part fails at the node
-  pub all_quiet : {Row : Type 0} (parts : List (Row → List Failure)) (rows : List Row) → count_of (fails_at node) (over parts rows) ≤ 0 → causes_at node (by_parts parts rows) ≡ []
+  pub all_quiet : {Row : Type 0} (parts : List (Row → List Failure)) (rows : List Row) → count_of (fails_at node) (over_rows parts rows) ≤ 0 → causes_at node (by_parts parts rows) ≡ []
   all_quiet [] rows none = refl
   all_quiet (part ∷ parts) rows none =
       causes-append (flat_map part rows) (by_parts parts rows)
-      ∙ (λ i. uncounted (flat_map part rows) (count_of (fails_at node) (over parts rows)) none i ++ all_quiet parts rows (omega (arith, none)) i)
+      ∙ (λ i. uncounted (flat_map part rows) (count_of (fails_at node) (over_rows parts rows)) none i ++ all_quiet parts rows (omega (arith, none)) i)
 
   step : {Row : Type 0} (part : Row → List Failure) (parts : List (Row → List Failure)) (rows : List Row) (b : Bool) → fails_at node (flat_map part rows) ≡ b
-      → count_of (fails_at node) (over (part ∷ parts) rows) ≤ 1
+      → count_of (fails_at node) (over_rows (part ∷ parts) rows) ≤ 1
       → causes_at node (by_rows parts rows) ≡ causes_at node (by_parts parts rows)
       → causes_at node (by_rows (part ∷ parts) rows) ≡ causes_at node (by_parts (part ∷ parts) rows)
   step part parts rows false is once rest =
@@ -99,7 +96,7 @@ module _ (node : NodeId) where
       first_alone part (λ row. flat_map (λ part. part row) parts) rows (rest ∙ none)
       ∙ sym (causes-append (flat_map part rows) (by_parts parts rows) ∙ ap (λ (these : List Cause). causes_at node (flat_map part rows) ++ these) none ∙ append-nil (causes_at node (flat_map part rows)))
 
-  pub same_at : {Row : Type 0} (parts : List (Row → List Failure)) (rows : List Row) → count_of (fails_at node) (over parts rows) ≤ 1
+  pub same_at : {Row : Type 0} (parts : List (Row → List Failure)) (rows : List Row) → count_of (fails_at node) (over_rows parts rows) ≤ 1
       → causes_at node (by_rows parts rows) ≡ causes_at node (by_parts parts rows)
   same_at [] rows once = nothing rows
   same_at (part ∷ parts) rows once = step part parts rows (fails_at node (flat_map part rows)) refl once (same_at parts rows (omega (arith, once)))
@@ -125,13 +122,13 @@ module _ (node : NodeId) where
       by_cases false false so = omega arith
 
   pub fails_first : {Row : Type 0} (parts : List (Row → List Failure)) (row : Row) (rows : List Row)
-      → count_of (fails_at node) (on parts row) ≤ count_of (fails_at node) (over parts (row ∷ rows))
+      → count_of (fails_at node) (on parts row) ≤ count_of (fails_at node) (over_rows parts (row ∷ rows))
   fails_first [] row rows = omega arith
   fails_first (part ∷ parts) row rows =
       omega (arith, fewer (part row) (part row ++ flat_map part rows) (front_fails (part row) (flat_map part rows)), fails_first parts row rows)
 
   pub fails_later : {Row : Type 0} (parts : List (Row → List Failure)) (row : Row) (rows : List Row)
-      → count_of (fails_at node) (over parts rows) ≤ count_of (fails_at node) (over parts (row ∷ rows))
+      → count_of (fails_at node) (over_rows parts rows) ≤ count_of (fails_at node) (over_rows parts (row ∷ rows))
   fails_later [] row rows = omega arith
   fails_later (part ∷ parts) row rows =
       omega (arith, fewer (flat_map part rows) (part row ++ flat_map part rows) (back_fails (part row) (flat_map part rows)), fails_later parts row rows)
@@ -140,7 +137,7 @@ module _ (node : NodeId) where
   -- rows.
   pub alike_over : {Row : Type 0} (of : Row → List Failure) (parts : List (Row → List Failure))
       → ((row : Row) → count_of (fails_at node) (on parts row) ≤ 1 → causes_at node (of row) ≡ causes_at node (flat_map (λ part. part row) parts))
-      → (rows : List Row) → count_of (fails_at node) (over parts rows) ≤ 1 → causes_at node (flat_map of rows) ≡ causes_at node (by_rows parts rows)
+      → (rows : List Row) → count_of (fails_at node) (over_rows parts rows) ≤ 1 → causes_at node (flat_map of rows) ≡ causes_at node (by_rows parts rows)
   alike_over of parts alike [] once = refl
   alike_over of parts alike (row ∷ rows) once =
       causes-append (of row) (flat_map of rows)

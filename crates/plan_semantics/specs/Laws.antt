@@ -1,21 +1,22 @@
 -- What the laws of plans say.
 use Rattle.std.specs.List.{flat_map, AllZip}
-use Rattle.std.specs.Prelude.{◌≡◌, ◌<◌, ℕ, Bool, true, List, ◌++◌, All}
+use Rattle.std.specs.Prelude.{◌≡◌, ◌<◌, ℕ, Bool, true, false, List, ◌++◌, All}
 use Rattle.esql_types.specs.declared.cause.Failure.{Failure}
 use Rattle.esql_plan.specs.declared.catalog.Catalog.{Catalog}
 use Rattle.esql_plan.specs.declared.plan.Plan.{Plan}
+use Rattle.esql_plan.specs.declared.plan.PlanSource.{PlanSource}
 use Rattle.esql_plan.specs.declared.plan.OutColumn.{OutColumn}
 use Rattle.esql_plan.specs.declared.step.Step.{Step}
 use Rattle.esql_plan.specs.declared.typed.TypedExpr.{TypedExpr}
 use Rattle.esql_plan.specs.Values.{NumberedRow, value_of_typed}
 use Rattle.esql_plan.specs.Fits.{ReadColumn, ExprFits, RowFits, columns_read, has_kind}
-use Rattle.plan_semantics.specs.Steps.{step_gives, rows_after, failures_after}
+use Rattle.plan_semantics.specs.Steps.{step_gives, is_stats, rows_after, failures_after}
 use Rattle.plan_semantics.specs.Agrees.{PlanSeen, Agrees, AgreeAtNodes}
 use Rattle.plan_semantics.specs.Plans.{plan_means}
 use Rattle.plan_semantics.specs.Parts.{parted, fails_in, plan_parts, IsOrderly, IsExprOrderly}
 use Rattle.plan_semantics.specs.Used.{StepReadsUsed, SameOn, SameAfter}
 use Rattle.plan_semantics.specs.Tables.{TableHeld, source_rows}
-use Rattle.plan_semantics.specs.WellFormed.{Bounds, MadeColumn, StepStands, StepsStand, HaveOwnNodes, RowHas, steps_made, AreTables, StepsFit, IsWellFormed, ExprStands}
+use Rattle.plan_semantics.specs.WellFormed.{Bounds, MadeColumn, StepStands, StepsStand, HaveOwnNodes, RowHas, steps_made, source_made, SourceStands, AreMadeOnce, AreTables, StepsFit, IsWellFormed, ExprStands}
 
 -- Steps one after another ----------------------------------------------------------------------------------------------------
 
@@ -44,11 +45,17 @@ abbrev pub StepsReadTheirColumns : Type 0
 StepsReadTheirColumns = (uses : ℕ → Bool) (steps : List Step) → All (StepReadsUsed uses) steps
     → (these those : List NumberedRow) → SameOn uses these those → SameAfter uses steps these those
 
+-- a source and steps that are well formed make each column once where no step is Stats
+abbrev pub StepsMakeOnce : Type 0
+StepsMakeOnce = (catalog : Catalog) (bounds : Bounds) (output : List OutColumn) (source : PlanSource) (steps : List Step)
+    → SourceStands catalog bounds source → StepsStand bounds output (source_made source) steps → All (λ (step : Step). is_stats step ≡ false) steps → AreMadeOnce source steps
+
 -- two rows have one cell in each column that is made
 abbrev pub IsKept : List MadeColumn → NumberedRow → NumberedRow → Type 0
 IsKept made before after = All (λ column. after column.id ≡ before column.id) made
 
--- a step of a well formed plan keeps the cells of each row in the columns that are made before it
+-- The rows that a step of a well formed plan makes of one row keep its cells in the columns that are made before the step. Stats
+-- makes no row of one row.
 abbrev pub StepsKeep : Type 0
 StepsKeep = (bounds : Bounds) (made : List MadeColumn) (step : Step) → StepStands bounds made step
     → (row : NumberedRow) → All (IsKept made row) (step_gives step row)

@@ -1,5 +1,8 @@
 pub mod Tables
 pub mod Orders
+pub mod Groups
+pub mod Aggregates
+pub mod Stats
 pub mod Steps
 pub mod Agrees
 pub mod Plans
@@ -7,3 +10,4 @@ pub mod Parts
 pub mod Used
 pub mod WellFormed
 pub mod Laws
+pub mod GroupLaws

@@ -1,5 +1,6 @@
--- The parts of a plan that can fail: the functions in its expressions, and its conditions as far as they have several values.
-use Rattle.std.specs.Prelude.{ℕ, ◌+◌, ◌≤◌, ◌==◌, Bool, not, List, [], ◌∷◌, ◌++◌, map, if◌then◌else◌}
+-- The parts of a plan that can fail: the functions in its expressions, its conditions as far as they have several values, and its
+-- aggregates.
+use Rattle.std.specs.Prelude.{ℕ, ◌+◌, ◌≤◌, ◌==◌, Bool, not, List, [], ◌∷◌, ◌++◌, map, length, if◌then◌else◌}
 use Rattle.std.specs.List.{flat_map, list_any}
 use Rattle.esql_types.specs.declared.value.Value.{Value}
 use Rattle.esql_types.specs.declared.cause.Cause.{Cause}
@@ -10,12 +11,16 @@ use Rattle.esql_plan.specs.declared.typed.TypedExpr.{TypedExpr}
 use Rattle.esql_plan.specs.declared.typed.TypedForm.TheOpen.{TypedForm-F, Constant, Column, Apply}
 use Rattle.esql_plan.specs.declared.typed.TypedForm.TheFolds.{fold-TypedExpr}
 use Rattle.esql_plan.specs.declared.plan.Plan.{Plan}
+use Rattle.esql_plan.specs.declared.step.Aggregate.{Aggregate}
+use Rattle.esql_plan.specs.declared.step.GroupColumn.{GroupColumn}
 use Rattle.esql_plan.specs.declared.step.Step.{Step}
 use Rattle.esql_plan.specs.declared.step.Step.TheVariants.{Eval, Filter, Sort, TopN, Limit, Expand, Stats, Dissect, Grok, Enrich}
 use Rattle.esql_plan.specs.Rules.{Rule, singles, each, list_and_singles, lists, tests, logic, membership, conditions, alternatives, given_singles, given_each, given_list, given_lists, given_logic, given_membership, first_cell, later_cells, multi_of, truth_in, is_null}
 use Rattle.esql_plan.specs.Functions.{rule_of}
 use Rattle.esql_plan.specs.Values.{Valued, NumberedRow, silent, failures_at, cells_of, applied, is_met, value_of_typed}
 use Rattle.plan_semantics.specs.Tables.{TableHeld, source_rows}
+use Rattle.plan_semantics.specs.Groups.{Key, Entry, keys_of_groups, entries_of_key, aggregate_of, values_at}
+use Rattle.plan_semantics.specs.Stats.{entries_of}
 use Rattle.plan_semantics.specs.Steps.{step_rows}
 
 -- a part that can fail: what it fails with on a row
@@ -107,31 +112,48 @@ parted = fold-TypedExpr (NodeId → Parted) Parted parted_form (λ expr. expr.fo
 abbrev pub fails_in : List FalliblePart → NumberedRow → List Failure
 fails_in parts row = flat_map (λ part. part row) parts
 
--- what each part fails with over rows
-abbrev pub over_rows : List FalliblePart → List NumberedRow → List (List Failure)
+-- what each part fails with over rows, or over groups
+abbrev pub over_rows : {Row : Type 0} → List (Row → List Failure) → List Row → List (List Failure)
 over_rows parts rows = map (λ part. flat_map part rows) parts
 
 -- a condition fails itself where it has several values
 abbrev pub condition_part : NodeId → TypedExpr → FalliblePart
 condition_part node condition row = failures_at node (multi_of (value_of_typed condition row).cell)
 
--- the parts of a step; no plan with one of the last four is run so far
-abbrev pub step_parts : Step → List FalliblePart
-step_parts (Eval to expr) = (parted expr).parts
-step_parts (Filter node condition) = (parted condition).parts ++ condition_part node condition ∷ []
-step_parts (Expand id to) = []
-step_parts (Sort keys) = []
-step_parts (TopN keys count) = []
-step_parts (Limit count) = []
-step_parts (Stats aggregates groups) = []
-step_parts (Dissect node input cutter to) = []
-step_parts (Grok node input cutter to) = []
-step_parts (Enrich policy on fields to) = []
+-- what an aggregate of the inputs at a place fails with in the group of a key
+abbrev pub aggregate_part : ℕ → Aggregate → List Entry → Key → List Failure
+aggregate_part place aggregate entries key =
+    let own : List Entry = entries_of_key key entries in
+    failures_at aggregate.node (aggregate_of aggregate.function (length own) (values_at place own)).causes
+
+-- aggregates, the first of them of the inputs at a place and the others of those behind it
+abbrev pub aggregate_parts : ℕ → List Aggregate → List Entry → List (Key → List Failure)
+aggregate_parts place [] entries = []
+aggregate_parts place (aggregate ∷ aggregates) entries = aggregate_part place aggregate entries ∷ aggregate_parts (place + 1) aggregates entries
+
+-- what each aggregate fails with over all groups
+abbrev pub stats_parts : List Aggregate → List GroupColumn → List NumberedRow → List (List Failure)
+stats_parts aggregates groups rows =
+    let entries : List Entry = entries_of aggregates groups rows in
+    over_rows (aggregate_parts 0 aggregates entries) (keys_of_groups (length groups) entries)
+
+-- what each part of a step fails with over rows; no plan with one of the last three is run so far
+abbrev pub step_parts : Step → List NumberedRow → List (List Failure)
+step_parts (Eval to expr) rows = over_rows (parted expr).parts rows
+step_parts (Filter node condition) rows = over_rows ((parted condition).parts ++ condition_part node condition ∷ []) rows
+step_parts (Expand id to) rows = []
+step_parts (Sort keys) rows = []
+step_parts (TopN keys count) rows = []
+step_parts (Limit count) rows = []
+step_parts (Stats aggregates groups) rows = stats_parts aggregates groups rows
+step_parts (Dissect node input cutter to) rows = []
+step_parts (Grok node input cutter to) rows = []
+step_parts (Enrich policy on fields to) rows = []
 
 -- what each part of steps fails with over all rows that come to it
 abbrev pub parts_after : List Step → List NumberedRow → List (List Failure)
 parts_after [] rows = []
-parts_after (step ∷ steps) rows = over_rows (step_parts step) rows ++ parts_after steps (step_rows step rows)
+parts_after (step ∷ steps) rows = step_parts step rows ++ parts_after steps (step_rows step rows)
 
 -- what each part of a plan fails with over tables
 abbrev pub plan_parts : Plan → List TableHeld → List (List Failure)

@@ -1,5 +1,5 @@
 -- The steps of a plan, as functions of the rows that come to them.
-use Rattle.std.specs.Prelude.{ℕ, Bool, List, [], ◌∷◌, ◌++◌, map, take, if◌then◌else◌}
+use Rattle.std.specs.Prelude.{ℕ, Bool, true, false, List, [], ◌∷◌, ◌++◌, map, take, if◌then◌else◌}
 use Rattle.std.specs.List.{flat_map}
 use Rattle.esql_types.specs.declared.value.Value.{Value}
 use Rattle.esql_types.specs.declared.cause.Failure.{Failure}
@@ -11,6 +11,7 @@ use Rattle.esql_plan.specs.Rules.{truth_in, multi_of}
 use Rattle.esql_plan.specs.Values.{Valued, NumberedRow, failures_at, is_met, value_of_typed}
 use Rattle.plan_semantics.specs.Tables.{with_cell}
 use Rattle.plan_semantics.specs.Orders.{order_of_rows}
+use Rattle.plan_semantics.specs.Stats.{stats_rows, stats_failures}
 
 -- the cell of a condition is true; null is not, nor are several values
 abbrev pub is_true : List Value → Bool
@@ -25,7 +26,8 @@ abbrev pub expanded : NumberedRow → ℕ → List Value → List NumberedRow
 expanded row id [] = with_cell row id [] ∷ []
 expanded row id (value ∷ values) = map (λ one. with_cell row id (one ∷ [])) (value ∷ values)
 
--- the rows that a step makes of one row; no plan with one of the last four is run so far
+-- The rows that a step makes of one row. Stats makes none of one row: its rows are those of groups. No plan with one of the last
+-- three is run so far.
 abbrev pub step_gives : Step → NumberedRow → List NumberedRow
 step_gives (Eval to expr) row = with_cell row to.0 (value_of_typed expr row).cell ∷ []
 step_gives (Filter node condition) row = if is_true (value_of_typed condition row).cell then row ∷ [] else []
@@ -33,12 +35,12 @@ step_gives (Expand id to) row = expanded row to.0 (row id.0)
 step_gives (Sort keys) row = row ∷ []
 step_gives (TopN keys count) row = row ∷ []
 step_gives (Limit count) row = row ∷ []
-step_gives (Stats aggregates groups) row = row ∷ []
+step_gives (Stats aggregates groups) row = []
 step_gives (Dissect node input cutter to) row = row ∷ []
 step_gives (Grok node input cutter to) row = row ∷ []
 step_gives (Enrich policy on fields to) row = row ∷ []
 
--- the failures of a step on one row; no plan with one of the last four is run so far
+-- The failures of a step on one row. Stats fails on groups alone. No plan with one of the last three is run so far.
 abbrev pub step_fails : Step → NumberedRow → List Failure
 step_fails (Eval to expr) row = (value_of_typed expr row).failures
 step_fails (Filter node condition) row = failures_of_condition node (value_of_typed condition row)
@@ -51,8 +53,21 @@ step_fails (Dissect node input cutter to) row = []
 step_fails (Grok node input cutter to) row = []
 step_fails (Enrich policy on fields to) row = []
 
--- The rows after a step: what it makes of each, all in the order of the keys, or the first of them. No plan with one of the
--- last four is run so far.
+-- the step makes rows of groups; the rows after any other step have the columns of the rows that come to it
+abbrev pub is_stats : Step → Bool
+is_stats (Eval to expr) = false
+is_stats (Filter node condition) = false
+is_stats (Expand id to) = false
+is_stats (Sort keys) = false
+is_stats (TopN keys count) = false
+is_stats (Limit count) = false
+is_stats (Stats aggregates groups) = true
+is_stats (Dissect node input cutter to) = false
+is_stats (Grok node input cutter to) = false
+is_stats (Enrich policy on fields to) = false
+
+-- The rows after a step: what it makes of each, all in the order of the keys, the first of them, or those of groups. No plan
+-- with one of the last three is run so far.
 abbrev pub step_rows : Step → List NumberedRow → List NumberedRow
 step_rows (Eval to expr) rows = flat_map (step_gives (Eval to expr)) rows
 step_rows (Filter node condition) rows = flat_map (step_gives (Filter node condition)) rows
@@ -60,14 +75,23 @@ step_rows (Expand id to) rows = flat_map (step_gives (Expand id to)) rows
 step_rows (Sort keys) rows = sorted_by (order_of_rows keys) rows
 step_rows (TopN keys count) rows = take count (sorted_by (order_of_rows keys) rows)
 step_rows (Limit count) rows = take count rows
-step_rows (Stats aggregates groups) rows = rows
+step_rows (Stats aggregates groups) rows = stats_rows aggregates groups rows
 step_rows (Dissect node input cutter to) rows = rows
 step_rows (Grok node input cutter to) rows = rows
 step_rows (Enrich policy on fields to) rows = rows
 
--- the failures of a step, row after row
+-- the failures of a step row after row, those of Stats group after group
 abbrev pub step_failures : Step → List NumberedRow → List Failure
-step_failures step rows = flat_map (step_fails step) rows
+step_failures (Eval to expr) rows = flat_map (step_fails (Eval to expr)) rows
+step_failures (Filter node condition) rows = flat_map (step_fails (Filter node condition)) rows
+step_failures (Expand id to) rows = flat_map (step_fails (Expand id to)) rows
+step_failures (Sort keys) rows = flat_map (step_fails (Sort keys)) rows
+step_failures (TopN keys count) rows = flat_map (step_fails (TopN keys count)) rows
+step_failures (Limit count) rows = flat_map (step_fails (Limit count)) rows
+step_failures (Stats aggregates groups) rows = stats_failures aggregates groups rows
+step_failures (Dissect node input cutter to) rows = flat_map (step_fails (Dissect node input cutter to)) rows
+step_failures (Grok node input cutter to) rows = flat_map (step_fails (Grok node input cutter to)) rows
+step_failures (Enrich policy on fields to) rows = flat_map (step_fails (Enrich policy on fields to)) rows
 
 -- the rows after steps one after another
 abbrev pub rows_after : List Step → List NumberedRow → List NumberedRow

@@ -1,7 +1,10 @@
 -- The columns that steps read, and rows that are the same in them.
-use Rattle.std.specs.Prelude.{◌≡◌, ℕ, Bool, true, List, [], map, All, if◌then◌else◌}
+use Rattle.std.specs.Prelude.{◌≡◌, ℕ, Bool, true, List, [], map, All, Option, Some, None, if◌then◌else◌}
+use Rattle.esql_types.specs.declared.names.ColId.{ColId}
 use Rattle.esql_plan.specs.declared.typed.TypedExpr.{TypedExpr}
 use Rattle.esql_plan.specs.declared.plan.OutColumn.{OutColumn}
+use Rattle.esql_plan.specs.declared.step.Aggregate.{Aggregate}
+use Rattle.esql_plan.specs.declared.step.GroupColumn.{GroupColumn}
 use Rattle.esql_plan.specs.declared.step.Step.{Step}
 use Rattle.esql_plan.specs.declared.step.Step.TheVariants.{Eval, Filter, Sort, TopN, Limit, Expand, Stats, Dissect, Grok, Enrich}
 use Rattle.esql_plan.specs.Values.{NumberedRow}
@@ -17,7 +20,17 @@ restrict uses row = λ id. if uses id then row id else []
 abbrev pub ReadsUsed : (ℕ → Bool) → TypedExpr → Type 0
 ReadsUsed uses expr = All (λ column. uses column.id.0 ≡ true) (columns_read expr)
 
--- a step reads columns that are used alone; no plan with one of the last four is run so far
+-- the input of an aggregate is used, where it has one
+abbrev pub InputUsed : (ℕ → Bool) → Option ColId → Type 0
+InputUsed uses None = Unit {0}
+InputUsed uses (Some id) = uses id.0 ≡ true
+
+-- the inputs of aggregates and the columns that rows are grouped by are used
+pub record StatsReadUsed (uses : ℕ → Bool) (aggregates : List Aggregate) (groups : List GroupColumn) : Type 0 where
+  pub inputs : All (λ (aggregate : Aggregate). InputUsed uses aggregate.input) aggregates
+  pub keys : All (λ (group : GroupColumn). uses group.id.0 ≡ true) groups
+
+-- a step reads columns that are used alone; no plan with one of the last three is run so far
 abbrev pub StepReadsUsed : (ℕ → Bool) → Step → Type 0
 StepReadsUsed uses (Eval to expr) = ReadsUsed uses expr
 StepReadsUsed uses (Filter node condition) = ReadsUsed uses condition
@@ -25,7 +38,7 @@ StepReadsUsed uses (Expand id to) = uses id.0 ≡ true
 StepReadsUsed uses (Sort keys) = All (λ key. uses key.id.0 ≡ true) keys
 StepReadsUsed uses (TopN keys count) = All (λ key. uses key.id.0 ≡ true) keys
 StepReadsUsed uses (Limit count) = Unit {0}
-StepReadsUsed uses (Stats aggregates groups) = Unit {0}
+StepReadsUsed uses (Stats aggregates groups) = StatsReadUsed uses aggregates groups
 StepReadsUsed uses (Dissect node input cutter to) = Unit {0}
 StepReadsUsed uses (Grok node input cutter to) = Unit {0}
 StepReadsUsed uses (Enrich policy on fields to) = Unit {0}

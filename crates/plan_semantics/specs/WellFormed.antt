@@ -16,12 +16,18 @@ use Rattle.esql_plan.specs.declared.plan.PlanSource.{PlanSource}
 use Rattle.esql_plan.specs.declared.plan.PlanSource.TheVariants.{OneRow, Scan}
 use Rattle.esql_plan.specs.declared.plan.ScanColumn.{ScanColumn}
 use Rattle.esql_plan.specs.declared.plan.OutColumn.{OutColumn}
+use Rattle.esql_plan.specs.declared.function.AggFunction.{AggFunction}
+use Rattle.esql_plan.specs.declared.function.AggFunction.TheVariants.{CountRows, Count, CountDistinct, Sum, Min, Max, Values}
+use Rattle.esql_plan.specs.declared.step.Aggregate.{Aggregate}
+use Rattle.esql_plan.specs.declared.step.GroupColumn.{GroupColumn}
 use Rattle.esql_plan.specs.declared.step.Step.{Step}
 use Rattle.esql_plan.specs.declared.step.Step.TheVariants.{Eval, Filter, Sort, TopN, Limit, Expand, Stats, Dissect, Grok, Enrich}
 use Rattle.esql_plan.specs.Signatures.{is_kind}
 use Rattle.esql_plan.specs.Values.{NumberedRow}
 use Rattle.esql_plan.specs.Fits.{ExprFits, RowFits, columns_read, has_kind}
 use Rattle.plan_semantics.specs.Tables.{TableHeld, catalog_tables}
+use Rattle.plan_semantics.specs.Aggregates.{aggregate_fits, aggregate_kind}
+use Rattle.plan_semantics.specs.Stats.{stats_columns}
 use Rattle.plan_semantics.specs.Steps.{step_rows}
 
 -- Columns that are made ------------------------------------------------------------------------------------------------------------
@@ -52,12 +58,27 @@ abbrev pub kind_made : List MadeColumn → ColId → Kind
 kind_made [] id = Null
 kind_made (column ∷ made) id = if id.0 == column.id then column.kind else kind_made made id
 
+-- no two columns have one number
+abbrev pub AreOnce : List ColId → Type 0
+AreOnce ids = IsDistinct (λ this that. this == that) (map (λ id. id.0) ids)
+
 -- the columns that a source makes
 abbrev pub source_made : PlanSource → List MadeColumn
 source_made OneRow = []
 source_made (Scan tables columns) = map (λ column. made_as column.to column.kind) columns
 
--- the columns that are made after a step; no plan with one of the last four is run so far
+-- the kind that the input of an aggregate is made with, that of null where it has none
+abbrev pub input_kind : List MadeColumn → Option ColId → Kind
+input_kind made None = Null
+input_kind made (Some id) = kind_made made id
+
+-- the columns that Stats makes, with the kinds of the aggregates and of the columns that rows are grouped by
+abbrev pub stats_made : List MadeColumn → List Aggregate → List GroupColumn → List MadeColumn
+stats_made made aggregates groups =
+    map (λ (aggregate : Aggregate). made_as aggregate.to (aggregate_kind aggregate.function (input_kind made aggregate.input))) aggregates
+    ++ map (λ (group : GroupColumn). made_as group.to (kind_made made group.id)) groups
+
+-- The columns that are made after a step. Stats leaves those that it makes alone. No plan with one of the last three is run so far.
 abbrev pub step_made : List MadeColumn → Step → List MadeColumn
 step_made made (Eval to expr) = made_as to expr.kind ∷ made
 step_made made (Filter node condition) = made
@@ -65,7 +86,7 @@ step_made made (Expand id to) = made_as to (kind_made made id) ∷ made
 step_made made (Sort keys) = made
 step_made made (TopN keys count) = made
 step_made made (Limit count) = made
-step_made made (Stats aggregates groups) = made
+step_made made (Stats aggregates groups) = stats_made made aggregates groups
 step_made made (Dissect node input cutter to) = made
 step_made made (Grok node input cutter to) = made
 step_made made (Enrich policy on fields to) = made
@@ -87,7 +108,7 @@ nodes_of_form (Apply function nodes pattern) node = flat_map (λ these. these) n
 abbrev pub nodes_of : TypedExpr → List NodeId
 nodes_of = fold-TypedExpr (NodeId → List NodeId) (List NodeId) nodes_of_form (λ expr. expr.form expr.node)
 
--- the nodes of a step that can fail; no plan with one of the last four is run so far
+-- the nodes of a step that can fail; no plan with one of the last three is run so far
 abbrev pub step_nodes : Step → List NodeId
 step_nodes (Eval to expr) = nodes_of expr
 step_nodes (Filter node condition) = nodes_of condition ++ node ∷ []
@@ -95,7 +116,7 @@ step_nodes (Expand id to) = []
 step_nodes (Sort keys) = []
 step_nodes (TopN keys count) = []
 step_nodes (Limit count) = []
-step_nodes (Stats aggregates groups) = []
+step_nodes (Stats aggregates groups) = map (λ (aggregate : Aggregate). aggregate.node) aggregates
 step_nodes (Dissect node input cutter to) = []
 step_nodes (Grok node input cutter to) = []
 step_nodes (Enrich policy on fields to) = []
@@ -131,7 +152,33 @@ pub record FilterStands (bounds : Bounds) (made : List MadeColumn) (node : NodeI
   pub truth : is_kind Boolean condition.kind ≡ true
   pub below : node.0 < bounds.nodes
 
--- a step is well formed over the columns that are made; no plan with one of the last four is well formed so far
+-- an aggregate has an input that is made with a kind that fits it
+abbrev pub HasInput : List MadeColumn → AggFunction → Option ColId → Type 0
+HasInput made function None = ⊥
+HasInput made function (Some id) = IsMade made id × (aggregate_fits function (kind_made made id) ≡ true)
+
+-- CountRows has no input, and every other aggregate has one
+abbrev pub InputStands : List MadeColumn → AggFunction → Option ColId → Type 0
+InputStands made CountRows input = input ≡ None
+InputStands made Count input = HasInput made Count input
+InputStands made CountDistinct input = HasInput made CountDistinct input
+InputStands made Sum input = HasInput made Sum input
+InputStands made Min input = HasInput made Min input
+InputStands made Max input = HasInput made Max input
+InputStands made Values input = HasInput made Values input
+
+pub record AggregateStands (bounds : Bounds) (made : List MadeColumn) (aggregate : Aggregate) : Type 0 where
+  pub input : InputStands made aggregate.function aggregate.input
+  pub below : aggregate.node.0 < bounds.nodes
+
+-- aggregates are well formed, rows are grouped by columns that are made, and the new columns differ
+pub record StatsStand (bounds : Bounds) (made : List MadeColumn) (aggregates : List Aggregate) (groups : List GroupColumn) : Type 0 where
+  pub stand : All (AggregateStands bounds made) aggregates
+  pub keys : All (λ (group : GroupColumn). IsMade made group.id) groups
+  pub new : All (MakesNew bounds made) (stats_columns aggregates groups)
+  pub once : AreOnce (stats_columns aggregates groups)
+
+-- a step is well formed over the columns that are made; no plan with one of the last three is well formed so far
 abbrev pub StepStands : Bounds → List MadeColumn → Step → Type 0
 StepStands bounds made (Eval to expr) = ExprStands bounds made expr × MakesNew bounds made to
 StepStands bounds made (Filter node condition) = FilterStands bounds made node condition
@@ -139,7 +186,7 @@ StepStands bounds made (Expand id to) = IsMade made id × MakesNew bounds made t
 StepStands bounds made (Sort keys) = All (λ key. IsMade made key.id) keys
 StepStands bounds made (TopN keys count) = All (λ key. IsMade made key.id) keys
 StepStands bounds made (Limit count) = Unit {0}
-StepStands bounds made (Stats aggregates groups) = ⊥
+StepStands bounds made (Stats aggregates groups) = StatsStand bounds made aggregates groups
 StepStands bounds made (Dissect node input cutter to) = ⊥
 StepStands bounds made (Grok node input cutter to) = ⊥
 StepStands bounds made (Enrich policy on fields to) = ⊥
@@ -176,11 +223,36 @@ SourceStands catalog bounds (Scan numbers columns) = ScanStands catalog bounds n
 abbrev pub bounds_of : List (List ℕ) → List (List ℕ) → Plan → Bounds
 bounds_of whole free plan = record { whole = whole; free = free; columns = plan.columns; nodes = plan.nodes }
 
--- The plan is well formed: each column is made once, before its use, and has one kind; its expressions are well formed for the
--- patterns; its tables are in the catalog; and the numbers of columns and nodes are below the plan's.
+-- the numbers of the columns that a source makes
+abbrev pub source_makes : PlanSource → List ColId
+source_makes OneRow = []
+source_makes (Scan tables columns) = map (λ column. column.to) columns
+
+-- the numbers of the columns that a step makes
+abbrev pub step_makes : Step → List ColId
+step_makes (Eval to expr) = to ∷ []
+step_makes (Filter node condition) = []
+step_makes (Expand id to) = to ∷ []
+step_makes (Sort keys) = []
+step_makes (TopN keys count) = []
+step_makes (Limit count) = []
+step_makes (Stats aggregates groups) = stats_columns aggregates groups
+step_makes (Dissect node input cutter to) = to
+step_makes (Grok node input cutter to) = to
+step_makes (Enrich policy on fields to) = to
+
+-- Each column number is made once by the source or one of the steps, also where a Stats stands between two of them. Where there
+-- is no Stats, it follows from each step being well formed over the columns that are made before it.
+abbrev pub AreMadeOnce : PlanSource → List Step → Type 0
+AreMadeOnce source steps = AreOnce (source_makes source ++ flat_map step_makes steps)
+
+-- The plan is well formed: each column is made once, before its use and with no Stats between the two, and has one kind; its
+-- expressions are well formed for the patterns; its tables are in the catalog; and the numbers of columns and nodes are below the
+-- plan's.
 pub record IsWellFormed (catalog : Catalog) (whole free : List (List ℕ)) (plan : Plan) : Type 0 where
   pub source : SourceStands catalog (bounds_of whole free plan) plan.source
   pub steps : StepsStand (bounds_of whole free plan) plan.output (source_made plan.source) plan.steps
+  pub once : AreMadeOnce plan.source plan.steps
 
 -- Rows and tables of their kinds ---------------------------------------------------------------------------------------------------------
 

@@ -1,6 +1,6 @@
 //! Laws of plans.
 
-ghost use Rattle.plan_semantics.specs.Laws.{RowsSplit, FailuresSplit, ReadsItsColumns, StepsReadTheirColumns, StepsKeep, EachAgrees, AgreeBack, AgreeThrough, EqualAgree, FailsByRows, FailsByParts, PlanFailsByParts, OwnNodesAreOrderly, ValuesHaveTheirKind, RowsKeepKinds, PlansFitRows, PlansShowKinds, ValuesFailBelow, PlansFailBelow};
+ghost use Rattle.plan_semantics.specs.Laws.{RowsSplit, FailuresSplit, ReadsItsColumns, StepsReadTheirColumns, StepsMakeOnce, StepsKeep, EachAgrees, AgreeBack, AgreeThrough, EqualAgree, FailsByRows, FailsByParts, PlanFailsByParts, OwnNodesAreOrderly, ValuesHaveTheirKind, RowsKeepKinds, PlansFitRows, PlansShowKinds, ValuesFailBelow, PlansFailBelow};
 
 /// A law: the rows after steps and others behind them are the rows after the others of the rows after the first.
 pub fn rows_split()
@@ -21,6 +21,11 @@ pub fn expressions_read_their_columns()
 /// A law: what steps give of rows, and fail with on them, depends on the columns that they read alone.
 pub fn steps_read_their_columns()
     ensures { StepsReadTheirColumns }
+{}
+
+/// A law: a source and steps that are well formed make each column once where no step is Stats.
+pub fn steps_make_once()
+    ensures { StepsMakeOnce }
 {}
 
 /// A law: a step of a well formed plan keeps what a row has in the columns that are made before it.

@@ -1,0 +1,5 @@
+use Rattle.plan_semantics.proofs.Grouping.{row_in_group}
+use Rattle.plan_semantics.proofs.group_laws.rows_are_in_their_groups.Goals as goal
+
+pub returns : goal.returns
+returns c = row_in_group
