@@ -1,0 +1,11 @@
+pub mod DistinctFolds
+pub mod StateSteps
+pub mod RunningSteps
+pub mod DistinctKeys
+pub mod GroupSteps
+pub mod MapSteps
+pub mod KeySeen
+pub mod RunningTurn
+pub mod Walks
+pub mod Seen
+pub mod KeyTurns

@@ -1,0 +1,6 @@
+pub mod Entries
+pub mod Keys
+pub mod States
+pub mod Maps
+pub mod Grouped
+pub mod Held

@@ -1,0 +1,77 @@
+ghost use Rattle.std.specs.Prelude.{◌≡◌, [], ◌++◌, map, IfOk, OnOk, slice_index_or};
+ghost use Rattle.std.specs.List.{flat_map};
+ghost use Rattle.stats_groups.specs.States.{running_before, running_after, cell_of_running, failures_of_running};
+
+use crate::state::{Running, State};
+use esql_plan::Aggregate;
+use esql_types::{Cell, Failure, Seq, Value};
+use std::alloc::{AllocError, Global};
+use std::marker::Model;
+
+/// The running aggregates of a group, which contracts see as a list.
+#[derive(Drop)]
+pub(crate) struct GroupStates {
+    states: Vec<Running>,
+}
+
+impl Model for GroupStates {
+    ghost use Rattle.std.specs.Prelude.{List};
+    ghost use Rattle.stats_groups.specs.declared.state.Running.{Running as State};
+
+    ghost Value = { List State };
+
+    ghost view = { λ it. it.states.items };
+}
+
+impl GroupStates {
+    /// The aggregates over no rows.
+    pub(crate) fn new(alloc: Global, aggregates: &[Aggregate]) -> Result<GroupStates, AllocError>
+        ensures { IfOk result (λ states. states ≡ running_before aggregates.now) }
+    {
+        let mut states = Vec::with_capacity(alloc, aggregates.len())?;
+        for aggregate in aggregates {
+            states.push(Running {
+                node: aggregate.node,
+                state: State::new(alloc, aggregate.function),
+            })?;
+        }
+        Ok(GroupStates { states })
+    }
+
+    /// Takes one more row, by the cells of the aggregates' inputs.
+    pub(crate) fn add(&mut self, inputs: &[Cell]) -> Result<(), AllocError>
+        ensures { OnOk result (self.new ≡ running_after 0 self.old inputs.now) }
+    {
+        for place in 0..self.states.len() {
+            self.states[place].state.add(values_at(inputs, place))?;
+        }
+        Ok(())
+    }
+
+    /// Adds the aggregates' cells to a row, and their failures to others.
+    pub(crate) fn push_cells(
+        self,
+        alloc: Global,
+        row: &mut Seq<Cell>,
+        failures: &mut Seq<Failure>,
+    ) -> Result<(), AllocError>
+        ensures row { OnOk result (row.new ≡ row.old ++ map cell_of_running self) }
+        ensures failures { OnOk result (failures.new ≡ failures.old ++ flat_map failures_of_running self) }
+    {
+        let GroupStates { states } = self;
+        for running in states {
+            row.push(running.finish(alloc, failures)?)?;
+        }
+        Ok(())
+    }
+}
+
+/// The values of the input at a place.
+fn values_at(inputs: &[Cell], place: usize) -> &[Value]
+    ensures { result.now ≡ slice_index_or inputs.now place [] }
+{
+    match inputs.get(place) {
+        Some(cell) => cell.as_slice(),
+        None => &[],
+    }
+}

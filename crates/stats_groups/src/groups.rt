@@ -1,0 +1,111 @@
+use crate::entries::{AddedRow, Entries};
+use crate::group_key::GroupKey;
+use crate::group_states::GroupStates;
+use crate::map::{add_row, groups_before, rows_of_groups};
+use esql_plan::Aggregate;
+use esql_types::{Cell, Failure, Seq};
+use indexmap::IndexMap;
+use std::alloc::{AllocError, Global};
+use std::marker::Model;
+
+/// Groups of rows by their keys, with the running aggregates of each. Nothing is kept of a row beyond these.
+///
+/// Contracts see how many columns rows are grouped by, the aggregates, and the rows that were added, in order. After want
+/// of memory in `add_row` there are no such rows: the groups are of no further use, and every call answers `AllocError`.
+#[derive(Drop)]
+pub struct Groups {
+    alloc: Global,
+    columns: u32,
+    aggregates: Seq<Aggregate>,
+    groups: IndexMap<GroupKey, GroupStates>,
+    entries: Entries,
+    is_broken: bool,
+}
+
+impl Model for Groups {
+    ghost use Rattle.stats_groups.specs.Grouped.{Grouped};
+
+    ghost Value = { Grouped };
+
+    ghost use Rattle.stats_groups.specs.Held.{grouped_of, HoldsGroups};
+
+    ghost view = { grouped_of };
+
+    ghost invariant = { HoldsGroups };
+}
+
+impl Groups {
+    ghost use Rattle.std.specs.Prelude.{◌≡◌, [], ◌++◌, length, Some, None, option_map, IsSome, IfOk, OnOk, OnErr};
+    ghost use Rattle.stats_groups.specs.Entries.{entry_of};
+    ghost use Rattle.stats_groups.specs.Grouped.{with_entry, rows_grouped, failures_grouped};
+
+    /// Groups by so many columns, before the first row.
+    pub fn new(alloc: Global, keys: u32, aggregates: Seq<Aggregate>) -> Result<Groups, AllocError>
+        ensures { IfOk result (λ groups. groups ≡ record { columns = keys; aggregates = aggregates; entries = Some [] }) }
+    {
+        let groups = groups_before(alloc, keys, aggregates.as_slice())?;
+        Ok(Groups {
+            alloc,
+            columns: keys,
+            aggregates,
+            groups,
+            entries: Entries::new(),
+            is_broken: false,
+        })
+    }
+
+    /// Adds a row, by its cells of the columns that rows are grouped by and those of the aggregates' inputs. A row counts in
+    /// the group of each choice of one of the distinct values of each key cell, or null where it has none.
+    ///
+    /// # Errors
+    /// Want of memory, here or in an earlier call; the groups are then of no further use.
+    pub fn add_row(&mut self, keys: &Seq<Cell>, inputs: &Seq<Cell>) -> Result<(), AllocError>
+        requires { length keys.now ≡ self.old.columns }
+        ensures ok { OnOk result (self.new ≡ with_entry (entry_of keys.now inputs.now) self.old) }
+        ensures some { OnOk result (IsSome self.old.entries) }
+        ensures err { OnErr result (self.new ≡ record self.old { entries = None }) }
+    {
+        if self.is_broken {
+            return Err(AllocError);
+        }
+        let added = add_row(
+            self.alloc,
+            &mut self.groups,
+            self.aggregates.as_slice(),
+            keys.as_slice(),
+            inputs.as_slice(),
+        );
+        match added {
+            Ok(()) => {
+                self.entries = self.entries.then(&AddedRow { keys, inputs });
+                Ok(())
+            }
+            Err(error) => {
+                self.is_broken = true;
+                Err(error)
+            }
+        }
+    }
+
+    /// A row for each group, in the order of the groups' first rows: the cells of the aggregates, then those of the key. The
+    /// failures of the aggregates are added to others, group after group; after want of memory some of them may be there.
+    ///
+    /// # Errors
+    /// Want of memory, here or in an earlier call.
+    pub fn finish(self, failures: &mut Seq<Failure>) -> Result<Seq<Seq<Cell>>, AllocError>
+        ensures rows { IfOk result (λ rows. Some rows ≡ rows_grouped self) }
+        ensures failures { OnOk result (Some failures.new ≡ option_map (λ new. failures.old ++ new) (failures_grouped self)) }
+    {
+        let Groups {
+            alloc,
+            groups,
+            is_broken,
+            ..
+        } = self;
+        if is_broken {
+            return Err(AllocError);
+        }
+        let rows = rows_of_groups(alloc, groups, failures)?;
+        Ok(rows)
+    }
+}

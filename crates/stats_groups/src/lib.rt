@@ -1,0 +1,17 @@
+//! Groups of rows by their keys, and the running aggregates of each.
+#![tactic(auto)]
+
+mod distinct;
+mod entries;
+mod group_key;
+mod group_states;
+mod groups;
+mod key_value;
+mod keys;
+mod map;
+mod state;
+mod sum;
+#[cfg(test)]
+mod tests;
+
+pub use groups::Groups;
