@@ -1,6 +1,6 @@
 -- The first rule that an expression breaks stands in a part of the text, where the spans of the expression do.
 use Rattle.std.proofs.Common.{◌≡◌, ℕ, zero, suc, Bool, true, false, cond, List, [], ◌∷◌, ◌++◌, map, All, Option, Some, None, IfSome, Result, Ok, Err, refl, ap, sym, subst, ◌∙◌}
-use Rattle.std.specs.Prelude.{if◌then◌else◌, slice_index_or}
+use Rattle.std.specs.Prelude.{slice_index_or}
 use Rattle.std.specs.List.{flat_map}
 use Rattle.std.proofs.lemmas.List.Elements.{All-nil, All-cons, All-head, All-tail, All-same}
 use denote.Hole.Holds.{Such}
@@ -8,7 +8,6 @@ use Rattle.esql_types.specs.declared.places.Span.{Span}
 use Rattle.esql_types.specs.declared.value.Kind.{Kind}
 use Rattle.esql_types.specs.declared.value.Kind.TheVariants as kind
 use Rattle.esql_types.specs.declared.value.Value.{Value}
-use Rattle.esql_types.specs.declared.value.Value.TheVariants as value
 use Rattle.esql_types.specs.declared.names.NodeId.{NodeId}
 use Rattle.esql_types.specs.declared.names.Column.{Column as NamedColumn}
 use Rattle.esql_types.specs.Spans.{SpanFits}
@@ -27,12 +26,11 @@ use Rattle.esql_plan.specs.declared.function.Function.TheVariants as function
 use Rattle.esql_plan.specs.declared.function.AggFunction.{AggFunction}
 use Rattle.esql_plan.specs.declared.names.FunctionRow.{FunctionRow}
 use Rattle.esql_plan.specs.Names.{function_named, aggregate_named, cast_named}
-use Rattle.row_semantics.specs.declared.rule.NameRule.{NameRule}
 use Rattle.row_semantics.specs.declared.rule.NameRule.TheVariants as rule
 use Rattle.row_semantics.specs.Regulars.{Regular}
 use Rattle.row_semantics.specs.Scopes.{Broken, Standing, elsewhere, in_field, in_aggregate, Scope, column_named, within_aggregate}
-use Rattle.row_semantics.specs.Forms.{Part, Seen, constant, named, same, applied, aggregate, refused, Reader, seen, call_by, call_of, takes, cast_by, list_in_kind, kind_of_list, constant_in, function_of, like_function, literal_of, part_of_form, part_of, pattern_part, function_in_plan, arguments_in_plan}
-use Rattle.row_semantics.specs.Kinds.{Judged, judged, breaks, and_then, kinds_of_parts, kind_of_column, kind_of_applied, regular_in, regular_of, if_accepted, fitting, kind_of_argument, kind_of_aggregate, kind_of_standing, aggregate_fits, aggregate_kind, may_have_star, kind_or_rule}
+use Rattle.row_semantics.specs.Forms.{Part, Seen, constant, named, same, applied, aggregate, refused, seen, call_by, cast_by, list_in_kind, kind_of_list, constant_in, part_of_form, part_of, pattern_part}
+use Rattle.row_semantics.specs.Kinds.{Judged, judged, breaks, and_then, kinds_of_parts, kind_of_column, kind_of_applied, regular_in, regular_of, if_accepted, fitting, kind_of_aggregate, kind_of_standing, aggregate_fits, aggregate_kind, may_have_star, kind_or_rule}
 use Rattle.query_semantics.specs.Places.{BrokenFits}
 
 -- a rule behind another -----------------------------------------------------------------------------------------------------
@@ -126,7 +124,7 @@ standing_stands text in_aggregate called star parts span scope stand fits = fits
 
 -- forms ---------------------------------------------------------------------------------------------------------------------
 
-column_fits : (text : List ℕ) (found : Option NamedColumn) (span : Span) → SpanFits text span → BrokenFits text (kind_of_column found span)
+pub column_fits : (text : List ℕ) (found : Option NamedColumn) (span : Span) → SpanFits text span → BrokenFits text (kind_of_column found span)
 column_fits text (Some column) span fits = tt
 column_fits text None span fits = fits
 

@@ -7,3 +7,4 @@ pub mod Squares
 pub mod Distinct
 pub mod Named
 pub mod Ordered
+pub mod Inputs

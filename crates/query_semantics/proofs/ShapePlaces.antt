@@ -1,6 +1,6 @@
 -- The first rule that a query breaks stands in a part of its text.
-use Rattle.std.proofs.Common.{◌≡◌, ℕ, Bool, true, false, cond, List, [], ◌∷◌, ◌++◌, All, Contains, Option, Some, None, Result, Ok, Err}
-use Rattle.std.specs.Prelude.{if◌then◌else◌, fold}
+use Rattle.std.proofs.Common.{ℕ, Bool, true, false, cond, List, [], ◌∷◌, All, Option, Some, None, Ok}
+use Rattle.std.specs.Prelude.{fold}
 use Rattle.std.specs.List.{flat_map, find, list_any}
 use Rattle.std.proofs.lemmas.List.Elements.{All-head, All-tail}
 use Rattle.esql_types.specs.declared.places.Span.{Span}
@@ -13,6 +13,7 @@ use Rattle.esql_ast.specs.declared.query.Field.{Field}
 use Rattle.esql_ast.specs.declared.query.NameAt.{NameAt}
 use Rattle.esql_ast.specs.declared.query.NamePattern.{NamePattern}
 use Rattle.esql_ast.specs.declared.query.RenamePair.{RenamePair}
+use Rattle.esql_ast.specs.declared.query.SortKey.{SortKey}
 use Rattle.esql_ast.specs.declared.query.Query.{Query}
 use Rattle.esql_ast.specs.declared.query.Command.{Command}
 use Rattle.esql_ast.specs.declared.query.CommandKind.{CommandKind}
@@ -20,22 +21,20 @@ use Rattle.esql_ast.specs.declared.query.CommandKind.TheVariants.{Filter, Eval, 
 use Rattle.esql_ast.specs.declared.query.SourceCommand.{SourceCommand}
 use Rattle.esql_ast.specs.declared.query.SourceCommand.TheVariants.{Tables, OneRow}
 use Rattle.esql_ast.specs.declared.expr.Expr.{Expr}
-use Rattle.esql_ast.specs.Fits.{ExprFits, NameFits, PatternFits, PairFits, FieldFits, FieldsFit, KindFits, SourceFits, QueryFits}
-use Rattle.esql_ast.specs.Nodes.{nodes_of, nodes_of_kind, nodes_of_command, nodes_of_source, nodes_of_field}
-use Rattle.esql_ast.specs.NameRules.{first_unmet, is_unmet, first_missing, first_missing_of, is_there, with_pair, keep_places, drop_places, at_places, renamings, renamed_by, placed}
+use Rattle.esql_ast.specs.Fits.{ExprFits, NameFits, PatternFits, PairFits, FieldFits, FieldsFit, KeyFits, KindFits, SourceFits, QueryFits}
+use Rattle.esql_ast.specs.Nodes.{nodes_of_kind, nodes_of_command, nodes_of_source}
+use Rattle.esql_ast.specs.NameRules.{is_unmet, first_missing_of, is_there, with_pair, placed}
 use Rattle.esql_ast.proofs.PartsFit.{own_span_fits}
-use Rattle.esql_plan.specs.declared.catalog.Catalog.{Catalog}
 use Rattle.esql_plan.specs.declared.catalog.TableShape.{TableShape}
 use Rattle.esql_plan.specs.Signatures.{is_kind}
 use Rattle.row_semantics.specs.declared.rule.NameRule.TheVariants as rule
-use Rattle.row_semantics.specs.Scopes.{Broken}
-use Rattle.row_semantics.specs.Kinds.{breaks, and_then, kind_or_rule}
-use Rattle.row_semantics.specs.Columns.{names_of, put_column, column_as}
-use Rattle.row_semantics.specs.Fields.{name_of_field}
+use Rattle.row_semantics.specs.Scopes.{column_named}
+use Rattle.row_semantics.specs.Kinds.{breaks, kind_of_column, kind_or_rule}
+use Rattle.row_semantics.specs.Columns.{names_of}
 use Rattle.row_semantics.specs.Sources.{clashes, with_column, with_table, with_tables, table_named, columns_of_tables}
-use Rattle.query_semantics.specs.Shapes.{Context, Shape, scope_over, shape_of_field, shape_of_fields, shape_of_condition, rule_of_unmet, unless_unmet, shape_of_keep, shape_of_drop, unless_missing, shape_of_rename, shape_of_kind, unless_empty, shape_of_command, shape_of_commands, shape_of_source, shape_in}
+use Rattle.query_semantics.specs.Shapes.{Context, scope_over, shape_of_field, shape_of_fields, shape_of_condition, unless_unmet, unless_missing, shape_of_keys, shape_of_expand, shape_of_kind, unless_empty, shape_of_command, shape_of_commands, shape_of_source, shape_in}
 use Rattle.query_semantics.specs.Places.{BrokenFits}
-use Rattle.query_semantics.proofs.ExprPlaces.{then_fits, either_fits, kind_fits}
+use Rattle.query_semantics.proofs.ExprPlaces.{then_fits, either_fits, column_fits, kind_fits}
 
 -- fields and conditions -------------------------------------------------------------------------------------------------------
 
@@ -81,6 +80,20 @@ missing_fits text (pair ∷ pairs) columns these fits =
     by_case true own rest = rest
     by_case false own rest = own
 
+-- SORT and MV_EXPAND ----------------------------------------------------------------------------------------------------------
+
+keys_fit : (context : Context) (keys : List SortKey) (columns : List Column) → All (KeyFits context.text) keys → BrokenFits context.text (shape_of_keys context keys columns)
+keys_fit context [] columns fits = tt
+keys_fit context (key ∷ keys) columns fits =
+    then_fits context.text (kind_or_rule key.expr (scope_over context columns)) _
+    (kind_fits context.text key.expr (All-head (KeyFits context.text) key keys fits) (scope_over context columns))
+    (λ kind. keys_fit context keys columns (All-tail (KeyFits context.text) key keys fits))
+
+expand_fits : (context : Context) (column : NameAt) (columns : List Column) → NameFits context.text column → BrokenFits context.text (shape_of_expand column columns)
+expand_fits context column columns fits =
+    let found = column_named columns column.name in
+    then_fits context.text (kind_of_column found column.span) _ (column_fits context.text found column.span fits) (λ kind. tt)
+
 -- commands --------------------------------------------------------------------------------------------------------------------
 
 kind_of_command_fits : (context : Context) (kind : CommandKind) (columns : List Column) → KindFits context.text kind → BrokenFits context.text (shape_of_kind context kind columns)
@@ -89,9 +102,9 @@ kind_of_command_fits context (Eval fields) columns fits = fields_fit context fie
 kind_of_command_fits context (Keep patterns) columns fits = found_fits context.text (is_unmet (names_of columns)) patterns _ fits
 kind_of_command_fits context (Drop patterns) columns fits = found_fits context.text (is_unmet (names_of columns)) patterns _ fits
 kind_of_command_fits context (Rename pairs) columns fits = missing_fits context.text pairs _ (placed (names_of columns)) fits
-kind_of_command_fits context (Sort keys) columns fits = tt
+kind_of_command_fits context (Sort keys) columns fits = keys_fit context keys columns fits
 kind_of_command_fits context (Limit count) columns fits = tt
-kind_of_command_fits context (Expand column) columns fits = tt
+kind_of_command_fits context (Expand column) columns fits = expand_fits context column columns fits
 kind_of_command_fits context (Stats fields groups) columns fits = tt
 kind_of_command_fits context (Dissect input pattern separator) columns fits = tt
 kind_of_command_fits context (Grok input pattern) columns fits = tt

@@ -37,6 +37,14 @@ pub map-flat_map : {X A B : Type 0} (f : A → B) (rows : X → List A) (xs : Li
 map-flat_map f rows [] = refl
 map-flat_map f rows (x ∷ xs) = map-append f (rows x) (flat_map rows xs) ∙ ap (λ these. map f (rows x) ++ these) (map-flat_map f rows xs)
 
+pub flat_map_none : {A B : Type 0} (f : A → List B) → ((x : A) → f x ≡ []) → (xs : List A) → flat_map f xs ≡ []
+flat_map_none f none [] = refl
+flat_map_none f none (x ∷ xs) = λ i. none x i ++ flat_map_none f none xs i
+
+pub flat_map_one : {A B : Type 0} (f : A → B) (xs : List A) → flat_map (λ x. f x ∷ []) xs ≡ map f xs
+flat_map_one f [] = refl
+flat_map_one f (x ∷ xs) = ap (λ rest. f x ∷ rest) (flat_map_one f xs)
+
 map-cond : {A B : Type 0} (f : A → B) (b : Bool) (xs ys : List A) → map f (cond b xs ys) ≡ cond b (map f xs) (map f ys)
 map-cond f true xs ys = refl
 map-cond f false xs ys = refl

@@ -1,21 +1,28 @@
 -- What the commands of a query do to rows of names, and what fails on the way.
-use Rattle.std.specs.Prelude.{ℕ, Bool, List, [], ◌∷◌, ◌++◌, filter, map, take}
+use Rattle.std.specs.Prelude.{ℕ, Bool, List, [], ◌∷◌, ◌++◌, filter, map, take, if◌then◌else◌}
+use Rattle.std.specs.declared.cmp.Ordering.{Ordering}
+use Rattle.std.specs.declared.cmp.Ordering.TheVariants.{Equal}
 use Rattle.std.specs.List.{flat_map}
+use Rattle.std.specs.Ordering.{ordering_then}
+use Rattle.std.specs.Str.{bytes_eq}
 use Rattle.esql_types.specs.declared.value.Value.{Value}
 use Rattle.esql_types.specs.declared.cause.Failure.{Failure}
 use Rattle.esql_types.specs.declared.names.NodeId.{NodeId}
 use Rattle.esql_ast.specs.declared.expr.Expr.{Expr}
 use Rattle.esql_ast.specs.declared.query.Field.{Field}
+use Rattle.esql_ast.specs.declared.query.SortKey.{SortKey}
 use Rattle.esql_ast.specs.declared.query.NamePattern.{NamePattern}
 use Rattle.esql_ast.specs.declared.query.RenamePair.{RenamePair}
 use Rattle.esql_ast.specs.declared.query.Command.{Command}
 use Rattle.esql_ast.specs.declared.query.CommandKind.{CommandKind}
 use Rattle.esql_ast.specs.declared.query.CommandKind.TheVariants.{Filter, Eval, Keep, Drop, Rename, Sort, Limit, Expand, Stats, Dissect, Grok, Enrich, Join}
 use Rattle.esql_ast.specs.NameRules.{keep_places, drop_places, at_places, renamings, renamed_by}
+use Rattle.function_rules.specs.Lists.{sorted_by}
 use Rattle.esql_plan.specs.Values.{Valued}
+use Rattle.plan_semantics.specs.Orders.{order_of_cells}
 use Rattle.plan_semantics.specs.Steps.{is_true, failures_of_condition}
 use Rattle.row_semantics.specs.declared.row.NamedCell.{NamedCell}
-use Rattle.row_semantics.specs.Rows.{Row, put}
+use Rattle.row_semantics.specs.Rows.{Row, cell_at, put}
 use Rattle.row_semantics.specs.Fields.{name_of_field}
 use Rattle.row_semantics.specs.Meanings.{value_on}
 
@@ -73,6 +80,37 @@ cell_as name named = record { name = name; cell = named.cell }
 abbrev pub renamed_row : List RenamePair → Row → Row
 renamed_row pairs row = renamed_by cell_as (renamings (names_in row) pairs) row
 
+-- SORT -----------------------------------------------------------------------------------------------------------------
+
+-- rows by the first of the keys at which they differ
+abbrev pub order_by_keys : List SortKey → Row → Row → Ordering
+order_by_keys [] this that = Equal
+order_by_keys (key ∷ keys) this that =
+    ordering_then (order_of_cells key.descending key.nulls_first (value_in_row key.expr this).cell (value_in_row key.expr that).cell) (order_by_keys keys this that)
+
+-- the rows in the order of the keys, in their earlier order where the keys tie
+abbrev pub rows_of_keys : List SortKey → List Row → List Row
+rows_of_keys keys rows = sorted_by (order_by_keys keys) rows
+
+-- the failures of each key in turn, row after row
+abbrev pub failures_of_keys : List SortKey → List Row → List Failure
+failures_of_keys keys rows = flat_map (λ (key : SortKey). failures_of_expr key.expr rows) keys
+
+-- MV_EXPAND --------------------------------------------------------------------------------------------------------------
+
+-- the row with another cell of a name, in its place
+abbrev pub with_named : List ℕ → List Value → Row → Row
+with_named name cell row = map (λ (named : NamedCell). if bytes_eq named.name name then record { name = named.name; cell = cell } else named) row
+
+-- a row for each value of a cell, with that value alone under the name; one row, with null there, where there is none
+abbrev pub expanded_at : List ℕ → Row → List Value → List Row
+expanded_at name row [] = with_named name [] row ∷ []
+expanded_at name row (value ∷ values) = map (λ one. with_named name (one ∷ []) row) (value ∷ values)
+
+-- the rows of the values of a column, the other cells copied
+abbrev pub expanded_row : List ℕ → Row → List Row
+expanded_row name row = expanded_at name row (cell_at row name)
+
 -- commands ---------------------------------------------------------------------------------------------------------------
 
 -- The rows after a command. No query with a command that is not built so far is answered: those leave the rows as they are.
@@ -82,23 +120,23 @@ rows_of_kind text (Eval fields) rows = rows_of_fields text fields rows
 rows_of_kind text (Keep patterns) rows = map (kept_of_row patterns) rows
 rows_of_kind text (Drop patterns) rows = map (left_of_row patterns) rows
 rows_of_kind text (Rename pairs) rows = map (renamed_row pairs) rows
-rows_of_kind text (Sort keys) rows = rows
+rows_of_kind text (Sort keys) rows = rows_of_keys keys rows
 rows_of_kind text (Limit count) rows = take count rows
-rows_of_kind text (Expand column) rows = rows
+rows_of_kind text (Expand column) rows = flat_map (expanded_row column.name) rows
 rows_of_kind text (Stats fields groups) rows = rows
 rows_of_kind text (Dissect input pattern separator) rows = rows
 rows_of_kind text (Grok input pattern) rows = rows
 rows_of_kind text (Enrich policy on fields) rows = rows
 rows_of_kind text (Join table on) rows = rows
 
--- What fails in a command: KEEP, DROP, RENAME and LIMIT never do. No query with a command that is not built so far is answered.
+-- What fails in a command: KEEP, DROP, RENAME, LIMIT and MV_EXPAND never do. No query with a command that is not built so far is answered.
 abbrev pub failures_of_kind : List ℕ → NodeId → CommandKind → List Row → List Failure
 failures_of_kind text node (Filter condition) rows = failures_of_rows node condition rows
 failures_of_kind text node (Eval fields) rows = failures_of_fields text fields rows
 failures_of_kind text node (Keep patterns) rows = []
 failures_of_kind text node (Drop patterns) rows = []
 failures_of_kind text node (Rename pairs) rows = []
-failures_of_kind text node (Sort keys) rows = []
+failures_of_kind text node (Sort keys) rows = failures_of_keys keys rows
 failures_of_kind text node (Limit count) rows = []
 failures_of_kind text node (Expand column) rows = []
 failures_of_kind text node (Stats fields groups) rows = []

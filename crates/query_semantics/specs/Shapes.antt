@@ -6,6 +6,8 @@ use Rattle.esql_types.specs.declared.value.Kind.TheVariants as kind
 use Rattle.esql_types.specs.declared.names.Column.{Column}
 use Rattle.esql_ast.specs.declared.expr.Expr.{Expr}
 use Rattle.esql_ast.specs.declared.query.Field.{Field}
+use Rattle.esql_ast.specs.declared.query.NameAt.{NameAt}
+use Rattle.esql_ast.specs.declared.query.SortKey.{SortKey}
 use Rattle.esql_ast.specs.declared.query.NamePattern.{NamePattern}
 use Rattle.esql_ast.specs.declared.query.RenamePair.{RenamePair}
 use Rattle.esql_ast.specs.declared.query.Query.{Query}
@@ -19,8 +21,8 @@ use Rattle.esql_plan.specs.declared.catalog.Catalog.{Catalog}
 use Rattle.esql_plan.specs.Signatures.{is_kind}
 use Rattle.row_semantics.specs.declared.rule.NameRule.TheVariants as rule
 use Rattle.row_semantics.specs.Regulars.{Regular, is_accepted}
-use Rattle.row_semantics.specs.Scopes.{Broken, Scope, elsewhere}
-use Rattle.row_semantics.specs.Kinds.{breaks, and_then, kind_or_rule}
+use Rattle.row_semantics.specs.Scopes.{Broken, Scope, elsewhere, column_named}
+use Rattle.row_semantics.specs.Kinds.{breaks, and_then, kind_of_column, kind_or_rule}
 use Rattle.row_semantics.specs.Fields.{name_of_field}
 use Rattle.row_semantics.specs.Columns.{names_of, put_column, column_as}
 use Rattle.row_semantics.specs.Sources.{columns_of_tables}
@@ -85,6 +87,18 @@ unless_missing (Some pair) columns = breaks rule.UnknownColumn pair.before.span
 abbrev pub shape_of_rename : List RenamePair → List Column → Shape
 shape_of_rename pairs columns = unless_missing (first_missing (names_of columns) pairs) (renamed_by column_as (renamings (names_of columns) pairs) columns)
 
+-- SORT and MV_EXPAND ------------------------------------------------------------------------------------------------------
+
+-- each key in turn has some kind; the columns stay
+abbrev pub shape_of_keys : Context → List SortKey → List Column → Shape
+shape_of_keys context [] columns = Ok columns
+shape_of_keys context (key ∷ keys) columns =
+    and_then (kind_or_rule key.expr (scope_over context columns)) (λ kind. shape_of_keys context keys columns)
+
+-- the column has to be there; it keeps its place and its kind
+abbrev pub shape_of_expand : NameAt → List Column → Shape
+shape_of_expand column columns = and_then (kind_of_column (column_named columns column.name) column.span) (λ kind. Ok columns)
+
 -- commands ---------------------------------------------------------------------------------------------------------------
 
 -- The columns after a command. No query with a command that is not built so far is judged: those leave the columns as they are.
@@ -94,9 +108,9 @@ shape_of_kind context (Eval fields) columns = shape_of_fields context fields col
 shape_of_kind context (Keep patterns) columns = shape_of_keep patterns columns
 shape_of_kind context (Drop patterns) columns = shape_of_drop patterns columns
 shape_of_kind context (Rename pairs) columns = shape_of_rename pairs columns
-shape_of_kind context (Sort keys) columns = Ok columns
+shape_of_kind context (Sort keys) columns = shape_of_keys context keys columns
 shape_of_kind context (Limit count) columns = Ok columns
-shape_of_kind context (Expand column) columns = Ok columns
+shape_of_kind context (Expand column) columns = shape_of_expand column columns
 shape_of_kind context (Stats fields groups) columns = Ok columns
 shape_of_kind context (Dissect input pattern separator) columns = Ok columns
 shape_of_kind context (Grok input pattern) columns = Ok columns

@@ -1,5 +1,5 @@
--- The plan that a query is written as: names vanish, and a step stands for each field, condition and LIMIT.
-use Rattle.std.specs.Prelude.{ℕ, ◌+◌, not, List, [], ◌∷◌, ◌++◌, filter, map, fold, length}
+-- The plan that a query is written as: names vanish, and a step stands for each field, condition, SORT, MV_EXPAND and LIMIT.
+use Rattle.std.specs.Prelude.{ℕ, ◌+◌, not, List, [], ◌∷◌, ◌++◌, filter, map, fold, length, Option, Some, None, if◌then◌else◌}
 use Rattle.std.specs.Str.{bytes_eq}
 use Rattle.esql_types.specs.declared.names.NodeId.{NodeId}
 use Rattle.esql_types.specs.declared.names.ColId.{ColId}
@@ -7,6 +7,7 @@ use Rattle.esql_types.specs.declared.names.Column.{Column}
 use Rattle.esql_types.specs.declared.value.Kind.{Kind}
 use Rattle.esql_ast.specs.declared.expr.Expr.{Expr}
 use Rattle.esql_ast.specs.declared.query.Field.{Field}
+use Rattle.esql_ast.specs.declared.query.SortKey.{SortKey}
 use Rattle.esql_ast.specs.declared.query.NamePattern.{NamePattern}
 use Rattle.esql_ast.specs.declared.query.RenamePair.{RenamePair}
 use Rattle.esql_ast.specs.declared.query.Query.{Query}
@@ -22,12 +23,15 @@ use Rattle.esql_plan.specs.declared.plan.PlanSource.{PlanSource}
 use Rattle.esql_plan.specs.declared.plan.PlanSource.TheVariants as source
 use Rattle.esql_plan.specs.declared.plan.ScanColumn.{ScanColumn}
 use Rattle.esql_plan.specs.declared.plan.OutColumn.{OutColumn}
+use Rattle.esql_plan.specs.declared.step.PlanKey.{PlanKey}
 use Rattle.esql_plan.specs.declared.step.Step.{Step}
 use Rattle.esql_plan.specs.declared.step.Step.TheVariants as step
 use Rattle.esql_plan.specs.declared.typed.TypedExpr.{TypedExpr}
+use Rattle.esql_plan.specs.declared.typed.TypedForm.TheOpen.{TypedForm-F, Constant, Column as ColumnRead, Apply}
+use Rattle.esql_plan.specs.declared.typed.TypedForm.TheFolds.{fold-TypedExpr}
 use Rattle.row_semantics.specs.Fields.{name_of_field}
 use Rattle.row_semantics.specs.Sources.{tables_named, columns_of_tables, columns_or_none}
-use Rattle.row_semantics.specs.Typed.{Visible, typing_of, typed_of}
+use Rattle.row_semantics.specs.Typed.{Visible, visible_named, typing_of, typed_of}
 use Rattle.query_semantics.specs.Cuts.{last_count}
 
 -- A plan that is being written: the columns that can be seen, the next column number, the patterns that were read so far, and
@@ -93,6 +97,62 @@ write_rename pairs writing = record writing { visible = renamed_by visible_as (r
 abbrev pub write_limit : ℕ → Writing → Writing
 write_limit count writing = record writing { steps = writing.steps ++ step.Limit count ∷ [] }
 
+-- Inputs: what a step reads is a column ----------------------------------------------------------------------------------
+
+abbrev pub column_of_form : TypedForm-F (Option ColId) (Option ColId) → Option ColId
+column_of_form (Constant cell) = None
+column_of_form (ColumnRead id) = Some id
+column_of_form (Apply function args pattern) = None
+
+-- the column that an expression is, parentheses aside
+abbrev pub column_of_typed : TypedExpr → Option ColId
+column_of_typed = fold-TypedExpr (Option ColId) (Option ColId) column_of_form (λ expr. expr.form)
+
+-- an expression that is no column first makes one, which cannot be seen
+abbrev pub write_input_by : Option ColId → Expr → Writing → Writing
+write_input_by (Some id) expr writing = writing
+write_input_by None expr writing = record (with_step writing expr (step.Eval (column_at writing.next) (typed_in writing expr))) { next = writing.next + 1 }
+
+abbrev pub write_input : Writing → Expr → Writing
+write_input writing expr = write_input_by (column_of_typed (typed_in writing expr)) expr writing
+
+-- the column that a step reads for an expression
+abbrev pub input_by : Option ColId → ℕ → ColId
+input_by (Some id) next = id
+input_by None next = column_at next
+
+abbrev pub input_of : Writing → Expr → ColId
+input_of writing expr = input_by (column_of_typed (typed_in writing expr)) writing.next
+
+-- the inputs of the keys in turn
+abbrev pub write_keys : List SortKey → Writing → Writing
+write_keys keys writing = fold (λ (so_far : Writing) (key : SortKey). write_input so_far key.expr) writing keys
+
+abbrev pub keys_in_plan : List SortKey → Writing → List PlanKey
+keys_in_plan [] writing = []
+keys_in_plan (key ∷ keys) writing =
+    record { id = input_of writing key.expr; descending = key.descending; nulls_first = key.nulls_first } ∷ keys_in_plan keys (write_input writing key.expr)
+
+-- SORT: the inputs of its keys, then one step
+abbrev pub write_sort : List SortKey → Writing → Writing
+write_sort keys writing = record (write_keys keys writing) { steps = (write_keys keys writing).steps ++ step.Sort (keys_in_plan keys writing) ∷ [] }
+
+-- another number in the place of the column of a name
+abbrev pub renumbered : List ℕ → ℕ → OutColumn → OutColumn
+renumbered name number column = if bytes_eq column.name name then record { name = column.name; kind = column.kind; id = column_at number } else column
+
+-- MV_EXPAND: a column of a new number takes the place of that of the name
+abbrev pub write_expand_of : Option OutColumn → List ℕ → Writing → Writing
+write_expand_of None name writing = writing
+write_expand_of (Some column) name writing = record writing {
+  visible = map (renumbered name writing.next) writing.visible;
+  next = writing.next + 1;
+  steps = writing.steps ++ step.Expand column.id (column_at writing.next) ∷ [];
+}
+
+abbrev pub write_expand : List ℕ → Writing → Writing
+write_expand name writing = write_expand_of (visible_named writing.visible name) name writing
+
 -- The steps of a command. No plan is written of a query with a command that is not built so far: those write nothing.
 abbrev pub write_kind : List ℕ → NodeId → CommandKind → Writing → Writing
 write_kind text node (Filter condition) writing = write_condition node condition writing
@@ -100,9 +160,9 @@ write_kind text node (Eval fields) writing = write_fields text fields writing
 write_kind text node (Keep patterns) writing = write_keep patterns writing
 write_kind text node (Drop patterns) writing = write_drop patterns writing
 write_kind text node (Rename pairs) writing = write_rename pairs writing
-write_kind text node (Sort keys) writing = writing
+write_kind text node (Sort keys) writing = write_sort keys writing
 write_kind text node (Limit count) writing = write_limit count writing
-write_kind text node (Expand column) writing = writing
+write_kind text node (Expand column) writing = write_expand column.name writing
 write_kind text node (Stats fields groups) writing = writing
 write_kind text node (Dissect input pattern separator) writing = writing
 write_kind text node (Grok input pattern) writing = writing

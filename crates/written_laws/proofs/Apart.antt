@@ -30,7 +30,7 @@ use Rattle.query_semantics.specs.Written.{Writing, writing_of}
 use Rattle.query_semantics.specs.Named.{named_row}
 use Rattle.query_semantics.proofs.Kinded.{found_of, ok_is}
 use Rattle.query_semantics.proofs.Named.{names_in-named, names_of-columns}
-use Rattle.written_laws.proofs.Shown.{unmet_is, missing_is, empty_is, condition_shows}
+use Rattle.written_laws.proofs.Shown.{unmet_is, missing_is, empty_is, condition_shows, keys_leave, expand_leaves}
 use Rattle.written_laws.proofs.Whole.{start_of, rows_are, columns_are}
 use Rattle.query_semantics.proofs.Distinct.{AreDistinct, distinct_nil, distinct_put}
 use Rattle.written_laws.proofs.NamesKept.{columns_keep, columns_drop, columns_rename}
@@ -38,7 +38,7 @@ use Rattle.query_semantics.proofs.Ordered.{tables_distinct}
 
 -- names that differ -----------------------------------------------------------------------------------------------------
 
-same_distinct : (columns after : List Column) → columns ≡ after → HaveDistinctNames columns → HaveDistinctNames after
+pub same_distinct : (columns after : List Column) → columns ≡ after → HaveDistinctNames columns → HaveDistinctNames after
 same_distinct columns after is distinct = subst HaveDistinctNames is distinct
 
 put_distinct : (columns : List Column) (name : List ℕ) (kind : Kind) → HaveDistinctNames columns → HaveDistinctNames (put_column columns name kind)
@@ -54,7 +54,7 @@ fields_distinct context (field ∷ fields) columns after distinct is =
     fields_distinct context fields found.value after
     (same_distinct _ found.value (ok_is one.next_is) (put_distinct columns (name_of_field context.text field) one.value distinct)) found.next_is
 
-kind_distinct : (context : Context) (kind : CommandKind) (columns after : List Column) → HaveDistinctNames columns → shape_of_kind context kind columns ≡ Ok after → HaveDistinctNames after
+pub kind_distinct : (context : Context) (kind : CommandKind) (columns after : List Column) → HaveDistinctNames columns → shape_of_kind context kind columns ≡ Ok after → HaveDistinctNames after
 kind_distinct context (Filter condition) columns after distinct is = same_distinct columns after (condition_shows context condition columns after is) distinct
 kind_distinct context (Eval fields) columns after distinct is = fields_distinct context fields columns after distinct is
 kind_distinct context (Keep patterns) columns after distinct is =
@@ -64,8 +64,8 @@ kind_distinct context (Drop patterns) columns after distinct is =
 kind_distinct context (Rename pairs) columns after distinct is =
     same_distinct _ after (missing_is (first_missing (names_of columns) pairs) _ after is) (columns_rename columns pairs distinct)
 kind_distinct context (Limit count) columns after distinct is = same_distinct columns after (ok_is is) distinct
-kind_distinct context (Sort keys) columns after distinct is = same_distinct columns after (ok_is is) distinct
-kind_distinct context (Expand column) columns after distinct is = same_distinct columns after (ok_is is) distinct
+kind_distinct context (Sort keys) columns after distinct is = same_distinct columns after (keys_leave context keys columns after is) distinct
+kind_distinct context (Expand column) columns after distinct is = same_distinct columns after (expand_leaves column columns after is) distinct
 kind_distinct context (Stats fields groups) columns after distinct is = same_distinct columns after (ok_is is) distinct
 kind_distinct context (Dissect input pattern separator) columns after distinct is = same_distinct columns after (ok_is is) distinct
 kind_distinct context (Grok input pattern) columns after distinct is = same_distinct columns after (ok_is is) distinct
@@ -80,7 +80,7 @@ commands_distinct context (command ∷ commands) columns after distinct is =
     commands_distinct context commands found.value after
     (same_distinct own.value found.value (empty_is command.span own.value found.value own.next_is) (kind_distinct context command.kind columns own.value distinct own.is)) found.next_is
 
-source_distinct : (context : Context) (source : SourceCommand) (columns : List Column) → shape_of_source context source ≡ Ok columns → HaveDistinctNames columns
+pub source_distinct : (context : Context) (source : SourceCommand) (columns : List Column) → shape_of_source context source ≡ Ok columns → HaveDistinctNames columns
 source_distinct context (Tables node span names) columns is =
     let found = found_of (columns_of_tables context.catalog.tables names) (unless_empty span) columns is in
     same_distinct found.value columns (empty_is span found.value columns found.next_is) (tables_distinct context.catalog.tables names found.value found.is)

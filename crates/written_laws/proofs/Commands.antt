@@ -1,29 +1,38 @@
 -- Each command does to rows of names what its steps do to rows of numbers.
-use Rattle.std.proofs.Common.{◌≡◌, ℕ, List, [], ◌∷◌, ◌++◌, map, fold, take, refl, ap, sym, subst, ◌∙◌, append_assoc}
+use Rattle.std.proofs.Common.{◌≡◌, ℕ, List, [], ◌∷◌, ◌++◌, map, fold, take, Option, Some, None, refl, ap, sym, subst, ◌∙◌, append_assoc}
+use Rattle.std.specs.List.{flat_map}
+use Rattle.std.specs.Ordering.{ordering_then}
+use Rattle.std.specs.declared.cmp.Ordering.{Ordering}
 use Rattle.std.proofs.lemmas.List.{append-nil, take-map}
 use Rattle.esql_types.specs.declared.names.NodeId.{NodeId}
 use Rattle.esql_types.specs.declared.cause.Failure.{Failure}
 use Rattle.esql_ast.specs.declared.expr.Expr.{Expr}
 use Rattle.esql_ast.specs.declared.query.Field.{Field}
+use Rattle.esql_ast.specs.declared.query.SortKey.{SortKey}
 use Rattle.esql_ast.specs.declared.query.Command.{Command}
 use Rattle.esql_ast.specs.declared.query.CommandKind.{CommandKind}
-use Rattle.esql_ast.specs.declared.query.CommandKind.TheVariants.{Filter, Eval, Keep, Drop, Rename, Limit}
+use Rattle.esql_ast.specs.declared.query.CommandKind.TheVariants.{Filter, Eval, Keep, Drop, Rename, Sort, Limit, Expand}
+use Rattle.function_rules.specs.Lists.{sorted_by}
 use Rattle.esql_plan.specs.declared.plan.OutColumn.{OutColumn}
 use Rattle.esql_plan.specs.declared.step.Step.{Step}
 use Rattle.esql_plan.specs.declared.step.Step.TheVariants as step
 use Rattle.esql_plan.specs.declared.typed.TypedExpr.{TypedExpr}
 use Rattle.esql_plan.specs.Values.{Valued, NumberedRow, value_of_typed}
 use Rattle.plan_semantics.specs.Tables.{with_cell}
-use Rattle.plan_semantics.specs.Steps.{is_true, failures_of_condition, step_fails, step_rows, step_failures, rows_after, failures_after}
-use Rattle.plan_semantics.proofs.Splits.{rows_after-append, failures_after-append}
+use Rattle.plan_semantics.specs.Orders.{order_of_cells, order_of_rows}
+use Rattle.plan_semantics.specs.Steps.{is_true, failures_of_condition, step_gives, step_fails, step_rows, step_failures, rows_after, failures_after}
+use Rattle.plan_semantics.proofs.Splits.{rows_after-append}
+use Rattle.plan_semantics.proofs.Sorted.{through, sorted_mapped}
 use Rattle.row_semantics.specs.Rows.{Row, put}
 use Rattle.row_semantics.specs.Fields.{name_of_field}
-use Rattle.query_semantics.specs.Commands.{value_in_row, row_with_field, rows_of_fields, failures_of_fields, failures_of_expr, rows_of_condition, failures_of_rows, rows_of_kind, failures_of_kind, rows_of_commands, failures_of_commands, kept_of_row, left_of_row, renamed_row}
-use Rattle.query_semantics.specs.Written.{Writing, column_at, put_visible, typed_in, write_field, write_fields, write_kind, write_command}
+use Rattle.row_semantics.specs.Typed.{visible_named}
+use Rattle.query_semantics.specs.Commands.{value_in_row, row_with_field, rows_of_fields, failures_of_fields, failures_of_expr, rows_of_condition, failures_of_rows, order_by_keys, rows_of_keys, failures_of_keys, expanded_row, rows_of_kind, failures_of_kind, rows_of_commands, failures_of_commands, kept_of_row, left_of_row, renamed_row}
+use Rattle.query_semantics.specs.Written.{Writing, column_at, put_visible, typed_in, write_field, write_fields, write_input, write_keys, keys_in_plan, write_sort, renumbered, write_expand_of, write_kind, write_command}
 use Rattle.query_semantics.specs.Named.{named_row}
-use Rattle.query_semantics.proofs.Squares.{map_square, map_map, map_same, flat_map_square, filter_square, filter_each}
-use Rattle.query_semantics.proofs.Named.{AllBelow, named_put, below_put, kept-named, left-named, renamed-named, below-places, below-renamed}
+use Rattle.query_semantics.proofs.Squares.{map_square, map_map, map_same, flat_map_square, flat_map_none, flat_map_one, map-flat_map, filter_square, filter_each}
+use Rattle.query_semantics.proofs.Named.{AllBelow, named_put, named_same, below_put, kept-named, left-named, renamed-named, below-places, below-renamed, expanded-named, unexpanded-named, below-renumbered}
 use Rattle.query_semantics.proofs.Valued.{expr_valued}
+use Rattle.written_laws.proofs.Inputs.{failures_after-push, HaveInputs, InputsStand, inputs_stand}
 
 -- what has been written stands for rows of names and the failures on the way, over the rows that the source gives
 pub record Stands (start : List NumberedRow) (rows : List Row) (failures : List Failure) (writing : Writing) : Type 0 where
@@ -31,12 +40,15 @@ pub record Stands (start : List NumberedRow) (rows : List Row) (failures : List 
   pub failures_are : failures ≡ failures_after writing.steps start
   pub below : AllBelow writing.next writing.visible
 
--- a step at the end
-failures_after-push : (steps : List Step) (step : Step) (start : List NumberedRow)
-    → failures_after (steps ++ step ∷ []) start ≡ failures_after steps start ++ step_failures step (rows_after steps start)
-failures_after-push steps step start =
-    failures_after-append steps (step ∷ []) start
-    ∙ ap (λ (these : List Failure). failures_after steps start ++ these) (append-nil (step_failures step (rows_after steps start)))
+-- SORT orders by keys the rows that have the inputs of the keys as it does their rows of names
+abbrev pub expr_of_key : SortKey → Expr
+expr_of_key key = key.expr
+
+keys_ordered : (keys : List SortKey) (writing : Writing) (this that : Row) (these those : NumberedRow) → HaveInputs expr_of_key keys writing this these → HaveInputs expr_of_key keys writing that those
+    → order_by_keys keys this that ≡ order_of_rows (keys_in_plan keys writing) these those
+keys_ordered [] writing this that these those first second = refl
+keys_ordered (key ∷ keys) writing this that these those first second =
+    λ i. ordering_then (order_of_cells key.descending key.nulls_first (sym first.0 i) (sym second.0 i)) (keys_ordered keys (write_input writing key.expr) this that these those first.1 second.1 i)
 
 -- one more step, on what can be seen then
 module _ (start : List NumberedRow) (rows : List Row) (failures : List Failure) (writing : Writing) (stands : Stands start rows failures writing) where
@@ -104,13 +116,57 @@ module _ (start : List NumberedRow) (rows : List Row) (failures : List Failure) 
   pub limit_stands : (text : List ℕ) (node : NodeId) (count : ℕ) → Stands start (take count rows) (failures ++ []) (write_kind text node (Limit count) writing)
   limit_stands text node count = record {
     rows_are = rows_pushed writing.visible (step.Limit count) (take count) (take-map (named_row writing.visible) count so_far);
-    failures_are = failures_pushed (step.Limit count) (λ these. []) (none_failing so_far);
+    failures_are = failures_pushed (step.Limit count) (λ these. []) (sym (flat_map_none (step_fails (step.Limit count)) (λ row. refl) so_far));
     below = stands.below;
   }
-    where
-      none_failing : (rows : List NumberedRow) → [] ≡ step_failures (step.Limit count) rows
-      none_failing [] = refl
-      none_failing (row ∷ rows) = none_failing rows
+
+  -- SORT
+  pub sort_stands : (keys : List SortKey) → Stands start (rows_of_keys keys rows) (failures ++ failures_of_keys keys rows) (write_sort keys writing)
+  sort_stands keys =
+      let inputs : InputsStand expr_of_key writing.visible keys writing = inputs_stand expr_of_key writing.visible keys writing refl stands.below in
+      let after : Writing = write_keys keys writing in
+      let sort : Step = step.Sort (keys_in_plan keys writing) in
+      let named : NumberedRow → Row = named_row writing.visible in
+      let order : NumberedRow → NumberedRow → Ordering = order_of_rows (keys_in_plan keys writing) in
+      let seen : (row : NumberedRow) → named (inputs.become row) ≡ named row = λ row. named_same writing.next writing.visible row (inputs.become row) stands.below (inputs.same row) in
+      let sorted : List NumberedRow = sorted_by (through order inputs.become) so_far in
+      record {
+        rows_are = ap (rows_of_keys keys) stands.rows_are
+            ∙ sym (sorted_mapped (order_by_keys keys) named so_far)
+            ∙ (λ i. map named (sorted_by (λ this that. keys_ordered keys writing (named this) (named that) (inputs.become this) (inputs.become that) (inputs.inputs this) (inputs.inputs that) i) so_far))
+            ∙ sym (map_map named inputs.become sorted ∙ map_same (λ (row : NumberedRow). named (inputs.become row)) named seen sorted)
+            ∙ ap (map named) (sorted_mapped order inputs.become so_far)
+            ∙ (λ i. map (named_row (sym inputs.visible_is i)) (sorted_by order (sym (inputs.rows start) i)))
+            ∙ ap (map (named_row after.visible)) (sym (rows_after-append after.steps (sort ∷ []) start));
+        failures_are = (λ i. stands.failures_are i ++ failures_of_keys keys (stands.rows_are i))
+            ∙ sym (inputs.failures start)
+            ∙ sym (append-nil (failures_after after.steps start))
+            ∙ ap (λ (these : List Failure). failures_after after.steps start ++ these) (sym (flat_map_none (step_fails sort) (λ row. refl) (rows_after after.steps start)))
+            ∙ sym (failures_after-push after.steps sort start);
+        below = subst (AllBelow after.next) (sym inputs.visible_is) inputs.below;
+      }
+
+  -- MV_EXPAND
+  pub expand_stands : (name : List ℕ) (found : Option OutColumn) → visible_named writing.visible name ≡ found
+      → Stands start (flat_map (expanded_row name) rows) (failures ++ []) (write_expand_of found name writing)
+  expand_stands name None is = record {
+    rows_are = ap (flat_map (expanded_row name)) stands.rows_are
+        ∙ flat_map_square (expanded_row name) (named_row writing.visible) (λ (row : NumberedRow). named_row writing.visible row ∷ []) (λ row. unexpanded-named writing.visible name row is) so_far
+        ∙ flat_map_one (named_row writing.visible) so_far;
+    failures_are = append-nil failures ∙ stands.failures_are;
+    below = stands.below;
+  }
+  expand_stands name (Some column) is =
+      let new : Step = step.Expand column.id (column_at writing.next) in
+      let visible : List OutColumn = map (renumbered name writing.next) writing.visible in
+      record {
+        rows_are = rows_pushed visible new (flat_map (expanded_row name))
+            (flat_map_square (expanded_row name) (named_row writing.visible) (λ (row : NumberedRow). map (named_row visible) (step_gives new row))
+            (λ row. expanded-named writing.visible name column writing.next row stands.below is) so_far
+            ∙ sym (map-flat_map (named_row visible) (step_gives new) so_far));
+        failures_are = failures_pushed new (λ these. []) (sym (flat_map_none (step_fails new) (λ row. refl) so_far));
+        below = below-renumbered name writing.next writing.visible stands.below;
+      }
 
   unbuilt_stands : Stands start rows (failures ++ []) writing
   unbuilt_stands = record { rows_are = stands.rows_are; failures_are = append-nil failures ∙ stands.failures_are; below = stands.below }
@@ -137,6 +193,8 @@ kind_stands text start node (Drop patterns) rows failures writing stands =
 kind_stands text start node (Rename pairs) rows failures writing stands =
     seen_stands start rows failures writing stands _ (renamed_row pairs) (renamed-named pairs writing.visible) (below-renamed writing.next _ writing.visible stands.below)
 kind_stands text start node (Limit count) rows failures writing stands = limit_stands start rows failures writing stands text node count
+kind_stands text start node (Sort keys) rows failures writing stands = sort_stands start rows failures writing stands keys
+kind_stands text start node (Expand column) rows failures writing stands = expand_stands start rows failures writing stands column.name (visible_named writing.visible column.name) refl
 kind_stands text start node other rows failures writing stands = unbuilt_stands start rows failures writing stands
 
 -- commands in turn

@@ -16,7 +16,10 @@ use Rattle.query_semantics.specs.Cuts.{last_count}
 use Rattle.query_semantics.specs.Shapes.{Context, shape_of, shape_of_source, shape_of_commands}
 use Rattle.query_semantics.specs.Written.{Writing, source_in_plan, write_source, writing_of, written_of}
 use Rattle.query_semantics.proofs.Kinded.{found_of}
+use Rattle.query_semantics.proofs.Named.{eq_itself}
 use Rattle.written_laws.proofs.Shown.{source_shows}
+use Rattle.written_laws.proofs.Apart.{source_distinct}
+use Rattle.written_laws.proofs.ColumnsOnce.{written_made_once}
 use Rattle.written_laws.proofs.Numbers.{all_at}
 use Rattle.written_laws.proofs.NodesWritten.{written_below}
 use Rattle.written_laws.proofs.StepsFormed.{IsNodeBelow, IsWithin, IsFormed, limit_formed, commands_formed, steps_show}
@@ -28,9 +31,6 @@ all_below nodes [] none = All-nil (IsNodeBelow nodes)
 all_below nodes (one ∷ ones) none =
     All-cons (IsNodeBelow nodes) one ones (by_test (nat_lt one.0 nodes) refl) (all_below nodes ones (λ node above. fewer node (none node above)))
   where
-    itself : (n : ℕ) → n == n ≡ true
-    itself n = grind arith
-
     fewer : (node : NodeId) → places node (one ∷ ones) ≤ 0 → places node ones ≤ 0
     fewer node few = omega (arith, few)
 
@@ -38,7 +38,7 @@ all_below nodes (one ∷ ones) none =
     by_test true is = grind (arith, nat_tests, is)
     by_test false is =
         let above : nodes ≤ one.0 = grind (arith, nat_tests, is) in
-        let here : cond {A = ℕ} (one.0 == one.0) 1 0 ≡ 1 = ap (λ (b : Bool). cond {A = ℕ} b 1 0) (itself one.0) in
+        let here : cond {A = ℕ} (one.0 == one.0) 1 0 ≡ 1 = ap (λ (b : Bool). cond {A = ℕ} b 1 0) (eq_itself one.0) in
         absurd (omega (arith, here, none one above))
 
 pub written_formed : (text : List ℕ) (catalog : Catalog) (query : Query) (columns : List Column) → IsCatalog catalog → IsNumbered query → shape_of text catalog query ≡ Ok columns
@@ -50,7 +50,7 @@ written_formed text catalog query columns is_catalog numbered is =
     let made : List MadeColumn = source_made (source_in_plan catalog query.source) in
     let first : ℕ = count_made context query.source in
     let commands = commands_formed made first context query.commands found.value columns (write_source text catalog query.source) (source_formed context query.source found.value found.is)
-    (source_shows context query.source found.value found.is) found.next_is in
+    (source_shows context query.source found.value found.is) (source_distinct context query.source found.value found.is) found.next_is in
     let formed : IsFormed made first writing = limit_formed made first _ commands (last_count query) in
     let bounds : Bounds = bounds_of writing.whole writing.free (written_of text catalog query).plan in
     let within : IsWithin bounds writing = record {
@@ -61,5 +61,6 @@ written_formed text catalog query columns is_catalog numbered is =
     } in
     record {
       source = source_stands context query.source found.value is_catalog found.is bounds formed.later;
-      steps = steps_show bounds writing.visible made writing.steps (formed.stand bounds within) formed.seen;
+      steps = steps_show bounds writing.visible made writing.steps (formed.stand bounds within) formed.columns.seen;
+      once = written_made_once text catalog query;
     }

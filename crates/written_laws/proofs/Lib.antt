@@ -1,3 +1,4 @@
+pub mod Inputs
 pub mod Commands
 pub mod Sources
 pub mod Shown
@@ -16,7 +17,9 @@ pub mod CallsFit
 pub mod KindsOfValues
 pub mod ExprsFit
 pub mod ColumnsTyped
+pub mod MadeOnce
 pub mod StepsFormed
 pub mod TablesScanned
 pub mod SourceFormed
+pub mod ColumnsOnce
 pub mod Formed

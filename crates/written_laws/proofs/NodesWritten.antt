@@ -1,20 +1,22 @@
 -- Each node is as often in the steps of a written plan at most as among the nodes of the query.
-use Rattle.std.proofs.Common.{◌≡◌, ℕ, zero, suc, ◌+◌, ◌≤◌, ◌<◌, ◌==◌, Bool, true, false, cond, List, [], ◌∷◌, ◌++◌, map, length, fold, refl, ap, ◌∙◌, arith}
+use Rattle.std.proofs.Common.{◌≡◌, ℕ, zero, suc, ◌+◌, ◌≤◌, ◌<◌, ◌==◌, Bool, true, false, cond, List, [], ◌∷◌, ◌++◌, map, length, fold, Option, Some, None, refl, ap, ◌∙◌, arith}
 use Rattle.std.specs.List.{flat_map, range_with_len}
 use Rattle.std.proofs.lemmas.List.{append-nil}
 use Rattle.esql_types.specs.declared.names.NodeId.{NodeId}
+use Rattle.esql_types.specs.declared.names.ColId.{ColId}
 use Rattle.esql_ast.specs.declared.nodes.NodeAt.{NodeAt}
 use Rattle.esql_ast.specs.declared.expr.Expr.{Expr}
 use Rattle.esql_ast.specs.declared.query.Field.{Field}
 use Rattle.esql_ast.specs.declared.query.Query.{Query}
 use Rattle.esql_ast.specs.declared.query.Command.{Command}
 use Rattle.esql_ast.specs.declared.query.CommandKind.{CommandKind}
-use Rattle.esql_ast.specs.declared.query.CommandKind.TheVariants.{Filter, Eval, Limit}
+use Rattle.esql_ast.specs.declared.query.CommandKind.TheVariants.{Filter, Eval, Sort, Limit, Expand}
 use Rattle.esql_ast.specs.declared.query.SourceCommand.{SourceCommand}
 use Rattle.esql_ast.specs.declared.query.SourceCommand.TheVariants.{Tables, OneRow}
 use Rattle.esql_ast.specs.Laws.{IsNumbered}
 use Rattle.esql_ast.specs.Nodes.{nodes_of_expr, nodes_of_field, nodes_of_kind, nodes_of_command, nodes_of_source, nodes_of}
 use Rattle.esql_plan.specs.declared.catalog.Catalog.{Catalog}
+use Rattle.esql_plan.specs.declared.plan.OutColumn.{OutColumn}
 use Rattle.esql_plan.specs.declared.step.Step.{Step}
 use Rattle.esql_plan.specs.declared.step.Step.TheVariants as step
 use Rattle.plan_semantics.specs.Parts.{count_of}
@@ -22,8 +24,11 @@ use Rattle.plan_semantics.specs.WellFormed.{nodes_of as typed_nodes_of, step_nod
 use Rattle.plan_semantics.proofs.Transposed.{count_of-append}
 use Rattle.plan_semantics.proofs.OwnNodes.{places}
 use Rattle.row_semantics.specs.Forms.{read_by}
+use Rattle.row_semantics.specs.Typed.{visible_named}
 use Rattle.query_semantics.specs.Cuts.{last_count}
-use Rattle.query_semantics.specs.Written.{Writing, column_at, typed_in, write_field, write_fields, write_kind, write_command, write_source, writing_of_columns, writing_of}
+use Rattle.query_semantics.specs.Written.{Writing, column_at, typed_in, column_of_typed, write_field, write_fields, write_input_by, write_input, write_keys, keys_in_plan, write_expand_of, write_kind, write_command, write_source, writing_of_columns, writing_of}
+use Rattle.written_laws.proofs.Inputs.{write_inputs}
+use Rattle.written_laws.proofs.Commands.{expr_of_key}
 use Rattle.written_laws.proofs.NodesTyped.{spent, typed_nodes}
 use Rattle.written_laws.proofs.NodesCounted.{placed, expr_counts}
 
@@ -100,6 +105,29 @@ module _ (node : NodeId) where
         count_of-append (λ (one : NodeAt). one.node.0 == node.0) (nodes_of_field field) (flat_map nodes_of_field fields),
       )
 
+  -- an input has the nodes of its expression, or none
+  pub input_counts : (writing : Writing) (expr : Expr) → in_steps (write_input writing expr).steps ≤ in_steps writing.steps + placed node (nodes_of_expr expr)
+  input_counts writing expr = by_found (column_of_typed (typed_in writing expr))
+    where
+      by_found : (found : Option ColId) → in_steps (write_input_by found expr writing).steps ≤ in_steps writing.steps + placed node (nodes_of_expr expr)
+      by_found (Some id) = omega arith
+      by_found None = omega (arith, typed_counts writing expr, pushed writing.steps (step.Eval (column_at writing.next) (typed_in writing expr)))
+
+  pub inputs_count : {Item : Type 0} (expr_of : Item → Expr) (items : List Item) (writing : Writing)
+      → in_steps (write_inputs expr_of items writing).steps ≤ in_steps writing.steps + placed node (flat_map (λ (item : Item). nodes_of_expr (expr_of item)) items)
+  inputs_count expr_of [] writing = omega arith
+  inputs_count {Item} expr_of (item ∷ items) writing =
+      omega (
+        arith,
+        input_counts writing (expr_of item),
+        inputs_count expr_of items (write_input writing (expr_of item)),
+        count_of-append (λ (one : NodeAt). one.node.0 == node.0) (nodes_of_expr (expr_of item)) (flat_map (λ (item : Item). nodes_of_expr (expr_of item)) items),
+      )
+
+  expand_counts : (name : List ℕ) (writing : Writing) (found : Option OutColumn) → in_steps (write_expand_of found name writing).steps ≤ in_steps writing.steps
+  expand_counts name writing None = omega arith
+  expand_counts name writing (Some column) = omega (arith, pushed writing.steps (step.Expand column.id (column_at writing.next)))
+
   abbrev one_at : NodeId → ℕ
   one_at own = cond {A = ℕ} (own.0 == node.0) 1 0
 
@@ -114,6 +142,8 @@ module _ (node : NodeId) where
       )
   kind_counts text own (Eval fields) writing = omega (arith, fields_count text fields writing)
   kind_counts text own (Limit count) writing = omega (arith, pushed writing.steps (step.Limit count))
+  kind_counts text own (Sort keys) writing = omega (arith, inputs_count expr_of_key keys writing, pushed (write_keys keys writing).steps (step.Sort (keys_in_plan keys writing)))
+  kind_counts text own (Expand column) writing = omega (arith, expand_counts column.name writing (visible_named writing.visible column.name))
   kind_counts text own other writing = omega arith
 
   commands_count : (text : List ℕ) (commands : List Command) (writing : Writing)

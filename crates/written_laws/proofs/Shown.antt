@@ -2,10 +2,13 @@
 use Rattle.std.proofs.Common.{◌≡◌, ℕ, Bool, true, false, cond, List, [], ◌∷◌, fold, Option, Some, None, Ok, Err, refl, ap, sym, ◌∙◌}
 use Rattle.esql_types.specs.declared.names.Column.{Column}
 use Rattle.esql_types.specs.declared.names.NodeId.{NodeId}
+use Rattle.esql_types.specs.declared.names.ColId.{ColId}
 use Rattle.esql_types.specs.declared.value.Kind.TheVariants as kind
 use Rattle.esql_types.specs.declared.places.Span.{Span}
 use Rattle.esql_ast.specs.declared.expr.Expr.{Expr}
 use Rattle.esql_ast.specs.declared.query.Field.{Field}
+use Rattle.esql_ast.specs.declared.query.NameAt.{NameAt}
+use Rattle.esql_ast.specs.declared.query.SortKey.{SortKey}
 use Rattle.esql_ast.specs.declared.query.NamePattern.{NamePattern}
 use Rattle.esql_ast.specs.declared.query.RenamePair.{RenamePair}
 use Rattle.esql_ast.specs.declared.query.Command.{Command}
@@ -14,16 +17,18 @@ use Rattle.esql_ast.specs.declared.query.CommandKind.TheVariants.{Filter, Eval, 
 use Rattle.esql_ast.specs.declared.query.SourceCommand.{SourceCommand}
 use Rattle.esql_ast.specs.declared.query.SourceCommand.TheVariants.{Tables, OneRow}
 use Rattle.esql_ast.specs.NameRules.{first_unmet, first_missing, keep_places, drop_places, at_places, renamings, renamed_by}
+use Rattle.esql_plan.specs.declared.plan.OutColumn.{OutColumn}
 use Rattle.esql_plan.specs.Signatures.{is_kind}
 use Rattle.plan_semantics.specs.Plans.{columns_of}
-use Rattle.row_semantics.specs.Scopes.{Broken, Scope}
-use Rattle.row_semantics.specs.Kinds.{kind_or_rule}
+use Rattle.row_semantics.specs.Scopes.{Broken, Scope, column_named}
+use Rattle.row_semantics.specs.Kinds.{kind_of_column, kind_or_rule}
 use Rattle.row_semantics.specs.Fields.{name_of_field}
 use Rattle.row_semantics.specs.Columns.{names_of, put_column, column_as}
 use Rattle.row_semantics.specs.Sources.{columns_of_tables, columns_or_none}
-use Rattle.query_semantics.specs.Shapes.{Context, Shape, scope_over, shape_of_field, shape_of_fields, shape_of_condition, unless_unmet, unless_missing, shape_of_kind, unless_empty, shape_of_command, shape_of_commands, shape_of_source}
-use Rattle.query_semantics.specs.Written.{Writing, typed_in, write_field, write_fields, write_kind, write_command, write_source, writing_of_columns}
-use Rattle.query_semantics.proofs.Named.{columns_put, columns-kept, columns-left, columns-renamed}
+use Rattle.row_semantics.specs.Typed.{visible_named}
+use Rattle.query_semantics.specs.Shapes.{Context, Shape, scope_over, shape_of_field, shape_of_fields, shape_of_condition, unless_unmet, unless_missing, shape_of_keys, shape_of_expand, shape_of_kind, unless_empty, shape_of_command, shape_of_commands, shape_of_source}
+use Rattle.query_semantics.specs.Written.{Writing, typed_in, column_of_typed, write_field, write_fields, write_input_by, write_input, write_keys, write_expand_of, write_kind, write_command, write_source, writing_of_columns}
+use Rattle.query_semantics.proofs.Named.{columns_put, columns-kept, columns-left, columns-renamed, columns-renumbered}
 use Rattle.query_semantics.proofs.Kinded.{found_of, ok_is, expr_kinded}
 use Rattle.query_semantics.proofs.Named.{columns_of-numbered}
 
@@ -72,6 +77,32 @@ condition_shows context condition columns after is =
     let found = found_of (kind_or_rule condition (scope_over context columns)) _ after is in
     either_is (is_kind kind.Boolean found.value) _ columns after found.next_is
 
+-- inputs are not seen
+pub input_shows : (columns : List Column) (writing : Writing) (expr : Expr) → Shows writing columns → Shows (write_input writing expr) columns
+input_shows columns writing expr shows = by_found (column_of_typed (typed_in writing expr))
+  where
+    by_found : (found : Option ColId) → Shows (write_input_by found expr writing) columns
+    by_found (Some id) = shows
+    by_found None = shows
+
+keys_show : (keys : List SortKey) (columns : List Column) (writing : Writing) → Shows writing columns → Shows (write_keys keys writing) columns
+keys_show [] columns writing shows = shows
+keys_show (key ∷ keys) columns writing shows = keys_show keys columns (write_input writing key.expr) (input_shows columns writing key.expr shows)
+
+expand_shows : (name : List ℕ) (columns : List Column) (writing : Writing) (found : Option OutColumn) → Shows writing columns → Shows (write_expand_of found name writing) columns
+expand_shows name columns writing None shows = shows
+expand_shows name columns writing (Some column) shows = shows ∙ sym (columns-renumbered name writing.next writing.visible)
+
+-- SORT and MV_EXPAND leave the columns
+pub keys_leave : (context : Context) (keys : List SortKey) (columns after : List Column) → shape_of_keys context keys columns ≡ Ok after → columns ≡ after
+keys_leave context [] columns after is = ok_is is
+keys_leave context (key ∷ keys) columns after is =
+    let found = found_of (kind_or_rule key.expr (scope_over context columns)) (λ kind. shape_of_keys context keys columns) after is in
+    keys_leave context keys columns after found.next_is
+
+pub expand_leaves : (column : NameAt) (columns after : List Column) → shape_of_expand column columns ≡ Ok after → columns ≡ after
+expand_leaves column columns after is = ok_is (found_of (kind_of_column (column_named columns column.name) column.span) (λ kind. Ok columns) after is).next_is
+
 -- a command
 pub kind_shows : (context : Context) (node : NodeId) (kind : CommandKind) (columns after : List Column) (writing : Writing) → Shows writing columns → shape_of_kind context kind columns ≡ Ok after
     → Shows (write_kind context.text node kind writing) after
@@ -90,8 +121,9 @@ kind_shows context node (Rename pairs) columns after writing shows is =
     ∙ ap (λ (these : List Column). renamed_by column_as (renamings (names_of these) pairs) these) shows
     ∙ columns-renamed pairs writing.visible
 kind_shows context node (Limit count) columns after writing shows is = sym (ok_is is) ∙ shows
-kind_shows context node (Sort keys) columns after writing shows is = sym (ok_is is) ∙ shows
-kind_shows context node (Expand column) columns after writing shows is = sym (ok_is is) ∙ shows
+kind_shows context node (Sort keys) columns after writing shows is = sym (keys_leave context keys columns after is) ∙ keys_show keys columns writing shows
+kind_shows context node (Expand column) columns after writing shows is =
+    sym (expand_leaves column columns after is) ∙ expand_shows column.name columns writing (visible_named writing.visible column.name) shows
 kind_shows context node (Stats fields groups) columns after writing shows is = sym (ok_is is) ∙ shows
 kind_shows context node (Dissect input pattern separator) columns after writing shows is = sym (ok_is is) ∙ shows
 kind_shows context node (Grok input pattern) columns after writing shows is = sym (ok_is is) ∙ shows

@@ -14,13 +14,14 @@ use Rattle.plan_semantics.specs.WellFormed.{MadeColumn, made_as, source_made, Bo
 use Rattle.row_semantics.specs.Sources.{tables_named, columns_of_tables, columns_or_none}
 use Rattle.query_semantics.specs.Catalogs.{IsCatalog}
 use Rattle.query_semantics.specs.Shapes.{Context, shape_of_source, unless_empty}
-use Rattle.query_semantics.specs.Written.{numbered_from, scan_column, writing_of_columns, source_in_plan, write_source}
-use Rattle.query_semantics.proofs.Named.{IsBelow}
+use Rattle.query_semantics.specs.Written.{column_at, numbered_from, scan_column, writing_of_columns, source_in_plan, write_source}
+use Rattle.query_semantics.proofs.Named.{IsBelow, eq_below}
 use Rattle.query_semantics.proofs.Kinded.{found_of}
-use Rattle.written_laws.proofs.Sources.{all_below}
+use Rattle.written_laws.proofs.Sources.{IsFrom, all_from, all_below}
 use Rattle.written_laws.proofs.ColumnsTyped.{OutIsMade}
 use Rattle.written_laws.proofs.TablesScanned.{HasKindOf, IsScanned, tables_scanned}
-use Rattle.written_laws.proofs.StepsFormed.{IsFormed, IsMadeBelow, fields_formed}
+use Rattle.written_laws.proofs.MadeOnce.{IsMadeBelow, IsOnce, IsOtherThan, none_made_once, once_cons}
+use Rattle.written_laws.proofs.StepsFormed.{IsFormed, fields_formed}
 
 abbrev scanned : List OutColumn → List ScanColumn
 scanned visible = map scan_column visible
@@ -38,19 +39,16 @@ all_made (out ∷ visible) =
 abbrev ids : List OutColumn → List ℕ
 ids visible = map (λ (column : ScanColumn). column.to.0) (scanned visible)
 
-other_id : (n m : ℕ) → n < m → n == m ≡ false
-other_id n m less = grind arith
-
 later_ids : (n next : ℕ) (columns : List Column) → n < next → AllByRecursion (λ m. n == m ≡ false) (ids (numbered_from next columns))
 later_ids n next [] less = tt
-later_ids n next (column ∷ columns) less = (other_id n next less, later_ids n (next + 1) columns (omega (arith, less)))
+later_ids n next (column ∷ columns) less = (eq_below n next less, later_ids n (next + 1) columns (omega (arith, less)))
 
 none_once : IsDistinct (λ (this that : ℕ). this == that) []
 unfolding IsDistinct
 none_once = tt
 
 -- the columns of a scan are made once
-once : (next : ℕ) (columns : List Column) → IsDistinct (λ this that. this == that) (ids (numbered_from next columns))
+pub once : (next : ℕ) (columns : List Column) → IsDistinct (λ this that. this == that) (ids (numbered_from next columns))
 once next [] = none_once
 once next (column ∷ columns) = IsDistinct-cons (λ this that. this == that) next (ids (numbered_from (next + 1) columns)) (later_ids next (next + 1) columns (omega arith)) (once (next + 1) columns)
 
@@ -62,6 +60,15 @@ table_kinds own next (column ∷ columns) all =
     All-cons (λ (column : ScanColumn). IfSome (kind_named own column.name) (λ kind. kind ≡ column.kind)) _ (scanned (numbered_from (next + 1) columns))
     (All-head (HasKindOf own) column columns all) (table_kinds own (next + 1) columns (All-tail (HasKindOf own) column columns all))
 
+numbers_once : (next : ℕ) (columns : List Column) → IsOnce (scan_made (numbered_from next columns))
+numbers_once next [] = none_made_once
+numbers_once next (column ∷ columns) =
+    once_cons (made_as (column_at next) column.kind) (scan_made (numbered_from (next + 1) columns))
+    (All-map (IsOtherThan next) (λ (scan : ScanColumn). made_as scan.to scan.kind) (scanned (numbered_from (next + 1) columns))
+    (All-map (λ (scan : ScanColumn). next == scan.to.0 ≡ false) scan_column (numbered_from (next + 1) columns)
+    (All-weaker (IsFrom (next + 1)) (λ (out : OutColumn). next == out.id.0 ≡ false) (λ out from. eq_below next out.id.0 (omega (arith, from))) (numbered_from (next + 1) columns) (all_from (next + 1) columns))))
+    (numbers_once (next + 1) columns)
+
 abbrev source_of : Context → SourceCommand → List MadeColumn
 source_of context command = source_made (source_in_plan context.catalog command)
 
@@ -72,17 +79,19 @@ count_made context (OneRow node span fields) = 0
 
 columns_formed : (columns : List Column) → IsFormed (scan_made (numbered_from 0 columns)) (length columns) (writing_of_columns columns)
 columns_formed columns = record {
-  seen = all_made (numbered_from 0 columns);
-  below = All-map (IsMadeBelow (length columns)) (λ (column : ScanColumn). made_as column.to column.kind) (scanned (numbered_from 0 columns))
-      (All-map (λ (column : ScanColumn). column.to.0 < length columns) scan_column (numbered_from 0 columns) (all_below 0 (length columns) columns (omega arith)));
+  columns = record {
+    seen = all_made (numbered_from 0 columns);
+    below = All-map (IsMadeBelow (length columns)) (λ (column : ScanColumn). made_as column.to column.kind) (scanned (numbered_from 0 columns))
+        (All-map (λ (column : ScanColumn). column.to.0 < length columns) scan_column (numbered_from 0 columns) (all_below 0 (length columns) columns (omega arith)));
+    once = numbers_once 0 columns;
+  };
   later = omega arith;
   stand = λ bounds within. All-nil (OutIsMade (scan_made (numbered_from 0 columns)));
 }
 
 nothing_formed : IsFormed [] 0 (writing_of_columns [])
 nothing_formed = record {
-  seen = All-nil (OutIsMade []);
-  below = All-nil (IsMadeBelow 0);
+  columns = record { seen = All-nil (OutIsMade []); below = All-nil (IsMadeBelow 0); once = none_made_once };
   later = omega arith;
   stand = λ bounds within. All-nil (OutIsMade []);
 }

@@ -1,5 +1,5 @@
 -- The rows that a source gives by names are what is seen of those that it gives by numbers.
-use Rattle.std.proofs.Common.{◌≡◌, ℕ, ◌+◌, ◌<◌, ◌≤◌, ◌==◌, Bool, true, false, cond, List, [], ◌∷◌, map, length, All, Option, Some, None, refl, ap, sym, subst, ◌∙◌, arith}
+use Rattle.std.proofs.Common.{◌≡◌, ℕ, ◌+◌, ◌<◌, ◌≤◌, ◌==◌, Bool, false, cond, List, [], ◌∷◌, map, length, All, Option, Some, None, refl, ap, sym, subst, ◌∙◌, arith}
 use Rattle.std.specs.Prelude.{slice_get}
 use Rattle.std.specs.List.{flat_map}
 use Rattle.std.proofs.lemmas.List.Elements.{All-nil, All-cons, All-weaker}
@@ -14,23 +14,19 @@ use Rattle.esql_plan.specs.declared.plan.PlanSource.TheVariants as source
 use Rattle.esql_plan.specs.declared.plan.ScanColumn.{ScanColumn}
 use Rattle.esql_plan.specs.Values.{NumberedRow}
 use Rattle.plan_semantics.specs.Tables.{TableHeld, catalog_tables, cell_named, empty_row, scan_row, scan_table, source_rows}
-use Rattle.plan_semantics.specs.Plans.{columns_of}
 use Rattle.row_semantics.specs.declared.row.NamedCell.{NamedCell}
 use Rattle.row_semantics.specs.Sources.{tables_named, columns_of_tables, columns_or_none}
 use Rattle.query_semantics.specs.Meaning.{row_under, rows_under, rows_of_tables, one_row, rows_of_source, failures_of_source}
 use Rattle.query_semantics.specs.Written.{numbered_from, scan_column, writing_of_columns, source_in_plan, write_source}
 use Rattle.query_semantics.specs.Named.{named_cell, named_row}
 use Rattle.query_semantics.proofs.Squares.{map_all, map_map, map_same, flat_map_same, map-flat_map}
-use Rattle.query_semantics.proofs.Named.{IsBelow, AllBelow}
+use Rattle.query_semantics.proofs.Named.{IsBelow, AllBelow, eq_itself}
 use Rattle.written_laws.proofs.Commands.{Stands, fields_stand}
 
-eq_itself : (n : ℕ) → n == n ≡ true
-eq_itself n = grind arith
-
-eq_above : (m n : ℕ) → m < n → n == m ≡ false
+pub eq_above : (m n : ℕ) → m < n → n == m ≡ false
 eq_above m n above = grind arith
 
-abbrev IsFrom : ℕ → OutColumn → Type 0
+abbrev pub IsFrom : ℕ → OutColumn → Type 0
 IsFrom next column = next ≤ column.id.0
 
 pub all_from : (next : ℕ) (columns : List Column) → All (IsFrom next) (numbered_from next columns)

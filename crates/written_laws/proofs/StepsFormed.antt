@@ -1,44 +1,52 @@
 -- Each command writes steps that are well formed over the columns that are made before them.
-use Rattle.std.proofs.Common.{◌≡◌, ℕ, ◌+◌, ◌≤◌, ◌<◌, ◌==◌, Bool, true, false, cond, not, List, [], ◌∷◌, ◌++◌, filter, length, fold, All, Ok, Err, refl, ap, sym, subst, ◌∙◌, arith}
+use Rattle.std.proofs.Common.{◌≡◌, ℕ, ◌+◌, ◌≤◌, ◌<◌, Bool, true, false, cond, not, List, [], ◌∷◌, ◌++◌, map, filter, length, fold, All, Contains, Option, Some, None, Ok, Err, refl, ap, sym, subst, ◌∙◌, arith}
 use Rattle.std.specs.List.{flat_map}
 use Rattle.std.specs.Str.{bytes_eq}
 use Rattle.std.proofs.lemmas.Grind.{flat_map-append}
-use Rattle.std.proofs.lemmas.List.Elements.{All-nil, All-cons, All-head, All-tail, All-weaker, All-filter, All-push, All-same, Contains-append_left, Contains-append_right, Contains-push}
+use Rattle.std.proofs.lemmas.List.Elements.{All-nil, All-cons, All-head, All-tail, All-filter, All-push, All-same}
 use Rattle.esql_types.proofs.Lists.{All-front, All-back}
 use Rattle.esql_types.specs.declared.value.Kind.{Kind}
 use Rattle.esql_types.specs.declared.value.Kind.TheVariants as kind
 use Rattle.esql_types.specs.declared.names.Column.{Column}
 use Rattle.esql_types.specs.declared.names.NodeId.{NodeId}
+use Rattle.esql_types.specs.declared.names.ColId.{ColId}
 use Rattle.esql_ast.specs.declared.expr.Expr.{Expr}
 use Rattle.esql_ast.specs.declared.query.Field.{Field}
+use Rattle.esql_ast.specs.declared.query.SortKey.{SortKey}
 use Rattle.esql_ast.specs.declared.query.Command.{Command}
 use Rattle.esql_ast.specs.declared.query.CommandKind.{CommandKind}
-use Rattle.esql_ast.specs.declared.query.CommandKind.TheVariants.{Filter, Eval, Keep, Drop, Rename, Limit}
+use Rattle.esql_ast.specs.declared.query.CommandKind.TheVariants.{Filter, Eval, Keep, Drop, Rename, Sort, Limit, Expand}
 use Rattle.esql_plan.specs.declared.plan.OutColumn.{OutColumn}
+use Rattle.esql_plan.specs.declared.step.PlanKey.{PlanKey}
 use Rattle.esql_plan.specs.declared.step.Step.{Step}
 use Rattle.esql_plan.specs.declared.step.Step.TheVariants as step
 use Rattle.esql_plan.specs.declared.typed.TypedExpr.{TypedExpr}
+use Rattle.esql_plan.specs.Fits.{columns_read}
 use Rattle.esql_plan.specs.Signatures.{is_kind}
-use Rattle.plan_semantics.specs.WellFormed.{MadeColumn, made_as, step_made, steps_made, nodes_of, step_nodes, Bounds, ExprStands, StepStands, StepsStand}
+use Rattle.plan_semantics.specs.WellFormed.{MadeColumn, made_as, IsMadeAs, IsMade, kind_made, step_made, steps_made, nodes_of, step_nodes, Bounds, ExprStands, StepStands, StepsStand}
 use Rattle.row_semantics.specs.Scopes.{Broken}
 use Rattle.row_semantics.specs.Kinds.{kind_or_rule}
 use Rattle.row_semantics.specs.Fields.{name_of_field}
-use Rattle.row_semantics.specs.Columns.{put_column}
-use Rattle.row_semantics.specs.Typed.{typing_of}
-use Rattle.query_semantics.specs.Shapes.{Context, Shape, scope_over, shape_of_field, shape_of_fields, shape_of_condition, shape_of_kind, shape_of_command, shape_of_commands, unless_empty}
-use Rattle.query_semantics.specs.Written.{Writing, column_at, typed_in, put_visible, write_field, write_fields, write_condition, write_limit, write_kind, write_command}
+use Rattle.row_semantics.specs.Columns.{put_column, HaveDistinctNames, names_of}
+use Rattle.row_semantics.specs.Typed.{visible_named, typing_of}
+use Rattle.query_semantics.specs.Shapes.{Context, Shape, scope_over, shape_of_field, shape_of_fields, shape_of_condition, shape_of_keys, shape_of_kind, shape_of_command, shape_of_commands, unless_empty}
+use Rattle.query_semantics.specs.Written.{Writing, column_at, typed_in, visible_names, put_visible, column_of_typed, write_field, write_fields, write_condition, write_limit, write_input_by, write_input, input_by, input_of, write_keys, keys_in_plan, write_sort, renumbered, write_expand_of, write_kind, write_command}
 use Rattle.query_semantics.proofs.Squares.{All-at_places, All-renamed_by}
 use Rattle.query_semantics.proofs.Kinded.{found_of, expr_kinded}
-use Rattle.written_laws.proofs.Shown.{Shows, field_shows, command_shows}
+use Rattle.query_semantics.proofs.Distinct.{AreDistinct}
+use Rattle.query_semantics.proofs.Inputs.{column_read}
+use Rattle.query_semantics.proofs.Named.{names_of-columns}
+use Rattle.written_laws.proofs.Inputs.{write_inputs}
+use Rattle.written_laws.proofs.Commands.{expr_of_key}
+use Rattle.written_laws.proofs.Shown.{Shows, empty_is, field_shows, input_shows, command_shows}
+use Rattle.written_laws.proofs.Apart.{same_distinct, kind_distinct}
 use Rattle.written_laws.proofs.Numbers.{HasAt, at-append}
 use Rattle.written_laws.proofs.ExprsFit.{expr_fits}
-use Rattle.written_laws.proofs.ColumnsTyped.{OutIsMade, over, typed_reads}
+use Rattle.written_laws.proofs.ColumnsTyped.{OutIsMade, ReadIsMade, over, typed_reads}
+use Rattle.written_laws.proofs.MadeOnce.{AreMade, made_first, made_later, is_made, made_other, made_next, HasKindIf, named_made, named_kinds, renumbered_made}
 
 abbrev pub IsNodeBelow : ℕ → NodeId → Type 0
 IsNodeBelow nodes node = node.0 < nodes
-
-abbrev pub IsMadeBelow : ℕ → MadeColumn → Type 0
-IsMadeBelow next column = column.id < next
 
 -- what has been written is within bounds
 pub record IsWithin (bounds : Bounds) (writing : Writing) : Type 0 where
@@ -49,8 +57,7 @@ pub record IsWithin (bounds : Bounds) (writing : Writing) : Type 0 where
 
 -- what has been written is well formed over the columns that the source makes, which are as many as the first number
 pub record IsFormed (made : List MadeColumn) (first : ℕ) (writing : Writing) : Type 0 where
-  pub seen : All (OutIsMade (steps_made made writing.steps)) writing.visible
-  pub below : All (IsMadeBelow writing.next) (steps_made made writing.steps)
+  pub columns : AreMade (steps_made made writing.steps) writing.next writing.visible
   pub later : first ≤ writing.next
   pub stand : (bounds : Bounds) → IsWithin bounds writing → StepsStand bounds [] made writing.steps
 
@@ -77,9 +84,6 @@ number_behind patterns these those at = subst (λ (n : ℕ). HasAt patterns n th
     same : (n : ℕ) → 0 + n ≡ n
     same n = omega arith
 
-other_id : (next id : ℕ) → id < next → next == id ≡ false
-other_id next id below = grind arith
-
 module _ (made : List MadeColumn) (first : ℕ) (writing : Writing) (formed : IsFormed made first writing) where
   abbrev so_far : List MadeColumn
   so_far = steps_made made writing.steps
@@ -100,45 +104,30 @@ module _ (made : List MadeColumn) (first : ℕ) (writing : Writing) (formed : Is
   expr_stands context columns expr kind shows is bounds whole free nodes = record {
     fits = expr_fits expr (over writing.visible) (scope_over context columns) kind (record { columns = shows; outside = refl }) is (length writing.whole) (length writing.free) bounds.whole bounds.free
         (number_behind bounds.whole writing.whole (typing_of expr).whole whole) (number_behind bounds.free writing.free (typing_of expr).free free);
-    reads = typed_reads expr so_far writing.visible formed.seen (length writing.whole) (length writing.free);
+    reads = typed_reads expr so_far writing.visible formed.columns.seen (length writing.whole) (length writing.free);
     nodes = nodes;
   }
 
-  -- a field
-  field_formed : (context : Context) (columns : List Column) (field : Field) (kind : Kind) → Shows writing columns → kind_or_rule field.expr (scope_over context columns) ≡ Ok kind
-      → IsFormed made first (write_field context.text writing field)
-  field_formed context columns field kind shows is =
-      let typed : TypedExpr = typed_in writing field.expr in
+  -- an expression makes a column
+  pub eval_formed : (context : Context) (columns : List Column) (expr : Expr) (kind : Kind) → Shows writing columns → kind_or_rule expr (scope_over context columns) ≡ Ok kind
+      → IsFormed made first (write_input_by None expr writing)
+  eval_formed context columns expr kind shows is =
+      let typed : TypedExpr = typed_in writing expr in
       let last : Step = step.Eval (column_at writing.next) typed in
-      let new : MadeColumn = made_as (column_at writing.next) typed.kind in
-      let name : List ℕ = name_of_field context.text field in
-      let own : OutColumn = record { name = name; kind = typed.kind; id = column_at writing.next } in
-      let are : steps_made made (writing.steps ++ last ∷ []) ≡ new ∷ so_far = steps_made-push made writing.steps last in
       record {
-        seen = subst (λ (these : List MadeColumn). All (OutIsMade these) (put_visible writing.visible name typed.kind writing.next)) (sym are)
-            (All-push (OutIsMade (new ∷ so_far)) (filter (λ (column : OutColumn). not (bytes_eq column.name name)) writing.visible) own
-            (All-weaker (OutIsMade so_far) (OutIsMade (new ∷ so_far)) (λ out there. Contains-append_right (new ∷ []) so_far (made_as out.id out.kind) there) _
-            (All-filter (λ (column : OutColumn). not (bytes_eq column.name name)) (OutIsMade so_far) writing.visible formed.seen))
-            (Contains-append_left (new ∷ []) so_far new (Contains-push [] new)));
-        below = subst (λ (these : List MadeColumn). All (IsMadeBelow (writing.next + 1)) these) (sym are)
-            (All-cons (IsMadeBelow (writing.next + 1)) new so_far (omega arith)
-            (All-weaker (IsMadeBelow writing.next) (IsMadeBelow (writing.next + 1)) (λ column less. omega (arith, less)) so_far formed.below));
+        columns = subst (λ (these : List MadeColumn). AreMade these (writing.next + 1) writing.visible) (sym (steps_made-push made writing.steps last))
+            (made_next so_far writing.next writing.visible typed.kind formed.columns);
         later = omega (arith, formed.later);
         stand = λ bounds within.
             let nodes = split_nodes bounds.nodes last within.nodes in
             let before : IsWithin bounds writing = record {
-              whole = (at-append bounds.whole 0 writing.whole (typing_of field.expr).whole within.whole).0;
-              free = (at-append bounds.free 0 writing.free (typing_of field.expr).free within.free).0;
+              whole = (at-append bounds.whole 0 writing.whole (typing_of expr).whole within.whole).0;
+              free = (at-append bounds.free 0 writing.free (typing_of expr).free within.free).0;
               next = omega (arith, within.next);
               nodes = nodes.0;
             } in
-            steps_stand-push bounds made writing.steps last (formed.stand bounds before) (
-              expr_stands context columns field.expr kind shows is bounds within.whole within.free nodes.1,
-              record {
-                new = All-weaker (IsMadeBelow writing.next) (λ (column : MadeColumn). writing.next == column.id ≡ false) (λ column less. other_id writing.next column.id less) so_far formed.below;
-                below = omega (arith, within.next);
-              },
-            );
+            steps_stand-push bounds made writing.steps last (formed.stand bounds before)
+            (expr_stands context columns expr kind shows is bounds within.whole within.free nodes.1, record { new = made_other so_far writing.next formed.columns.below; below = omega (arith, within.next) });
       }
 
   either_true : (truth : Bool) (broken : Broken) (columns after : List Column) → ◌≡◌ {A = Shape} (cond truth (Ok columns) (Err broken)) (Ok after) → truth ≡ true
@@ -156,8 +145,7 @@ module _ (made : List MadeColumn) (first : ℕ) (writing : Writing) (formed : Is
       expr_kinded condition (over writing.visible) (scope_over context columns) found.value (record { columns = shows; outside = refl }) found.is (length writing.whole) (length writing.free) in
       let are : steps_made made (writing.steps ++ last ∷ []) ≡ so_far = steps_made-push made writing.steps last in
       record {
-        seen = subst (λ (these : List MadeColumn). All (OutIsMade these) writing.visible) (sym are) formed.seen;
-        below = subst (λ (these : List MadeColumn). All (IsMadeBelow writing.next) these) (sym are) formed.below;
+        columns = subst (λ (these : List MadeColumn). AreMade these writing.next writing.visible) (sym are) formed.columns;
         later = formed.later;
         stand = λ bounds within.
             let nodes = split_nodes bounds.nodes last within.nodes in
@@ -175,27 +163,154 @@ module _ (made : List MadeColumn) (first : ℕ) (writing : Writing) (formed : Is
             });
       }
 
-  -- KEEP, DROP and RENAME
-  seen_formed : (visible : List OutColumn) → All (OutIsMade so_far) visible → IsFormed made first (record writing { visible = visible })
+  -- other columns that can be seen
+  pub seen_formed : (visible : List OutColumn) → All (OutIsMade so_far) visible → IsFormed made first (record writing { visible = visible })
   seen_formed visible all = record {
-    seen = all;
-    below = formed.below;
+    columns = record { seen = all; below = formed.columns.below; once = formed.columns.once };
     later = formed.later;
     stand = λ bounds within. formed.stand bounds (record { whole = within.whole; free = within.free; next = within.next; nodes = within.nodes });
   }
 
-  -- LIMIT
+  -- a step that makes no column, as LIMIT and SORT
+  pub step_formed : (last : Step) → step_made so_far last ≡ so_far → ((bounds : Bounds) → StepStands bounds so_far last) → IsFormed made first (record writing { steps = writing.steps ++ last ∷ [] })
+  step_formed last same stands = record {
+    columns = subst (λ (these : List MadeColumn). AreMade these writing.next writing.visible) (sym (steps_made-push made writing.steps last ∙ same)) formed.columns;
+    later = formed.later;
+    stand = λ bounds within.
+        let before : IsWithin bounds writing = record { whole = within.whole; free = within.free; next = within.next; nodes = (split_nodes bounds.nodes last within.nodes).0 } in
+        steps_stand-push bounds made writing.steps last (formed.stand bounds before) (stands bounds);
+  }
+
   pub limit_formed : (count : ℕ) → IsFormed made first (write_limit count writing)
-  limit_formed count =
-      let are : steps_made made (writing.steps ++ step.Limit count ∷ []) ≡ so_far = steps_made-push made writing.steps (step.Limit count) in
+  limit_formed count = step_formed (step.Limit count) refl (λ bounds. tt)
+
+  -- MV_EXPAND
+  pub expand_formed : (name : List ℕ) (found : Option OutColumn) → visible_named writing.visible name ≡ found → AreDistinct (visible_names writing.visible)
+      → IsFormed made first (write_expand_of found name writing)
+  expand_formed name None is distinct = formed
+  expand_formed name (Some column) is distinct =
+      let last : Step = step.Expand column.id (column_at writing.next) in
+      let there : OutIsMade so_far column = named_made so_far writing.visible name column formed.columns.seen is in
+      let kind : Kind = kind_made so_far column.id in
+      let known : column.kind ≡ kind = sym (formed.columns.once column.id column.kind there) in
+      let new : MadeColumn = made_as (column_at writing.next) kind in
+      let visible : List OutColumn = map (renumbered name writing.next) writing.visible in
+      let next : AreMade (new ∷ so_far) (writing.next + 1) writing.visible = made_next so_far writing.next writing.visible kind formed.columns in
+      let seen : All (OutIsMade (new ∷ so_far)) visible =
+      renumbered_made so_far writing.next writing.visible name kind
+      (subst (λ (own : Kind). All (HasKindIf name own) writing.visible) known (named_kinds writing.visible name column distinct is)) formed.columns.seen in
       record {
-        seen = subst (λ (these : List MadeColumn). All (OutIsMade these) writing.visible) (sym are) formed.seen;
-        below = subst (λ (these : List MadeColumn). All (IsMadeBelow writing.next) these) (sym are) formed.below;
-        later = formed.later;
+        columns = subst (λ (these : List MadeColumn). AreMade these (writing.next + 1) visible) (sym (steps_made-push made writing.steps last)) (record { seen = seen; below = next.below; once = next.once });
+        later = omega (arith, formed.later);
         stand = λ bounds within.
-            let before : IsWithin bounds writing = record { whole = within.whole; free = within.free; next = within.next; nodes = (split_nodes bounds.nodes (step.Limit count) within.nodes).0 } in
-            steps_stand-push bounds made writing.steps (step.Limit count) (formed.stand bounds before) tt;
+            let before : IsWithin bounds writing = record {
+              whole = within.whole;
+              free = within.free;
+              next = omega (arith, within.next);
+              nodes = (split_nodes bounds.nodes last within.nodes).0;
+            } in
+            steps_stand-push bounds made writing.steps last (formed.stand bounds before)
+            (is_made so_far column.id column.kind there, record { new = made_other so_far writing.next formed.columns.below; below = omega (arith, within.next) });
       }
+
+-- a field
+field_formed : (made : List MadeColumn) (first : ℕ) (context : Context) (columns : List Column) (field : Field) (kind : Kind) (writing : Writing) → IsFormed made first writing → Shows writing columns
+    → kind_or_rule field.expr (scope_over context columns) ≡ Ok kind → IsFormed made first (write_field context.text writing field)
+field_formed made first context columns field kind writing formed shows is =
+    let after : Writing = write_input_by None field.expr writing in
+    let name : List ℕ = name_of_field context.text field in
+    let typed : TypedExpr = typed_in writing field.expr in
+    let makes : IsFormed made first after = eval_formed made first writing formed context columns field.expr kind shows is in
+    let own : OutColumn = record { name = name; kind = typed.kind; id = column_at writing.next } in
+    let there : OutIsMade (steps_made made after.steps) own =
+    subst (λ (these : List MadeColumn). OutIsMade these own) (sym (steps_made-push made writing.steps (step.Eval (column_at writing.next) typed)))
+    (made_first (made_as (column_at writing.next) typed.kind) (steps_made made writing.steps)) in
+    seen_formed made first after makes (put_visible writing.visible name typed.kind writing.next)
+    (All-push (OutIsMade (steps_made made after.steps)) (filter (λ (column : OutColumn). not (bytes_eq column.name name)) writing.visible) own
+    (All-filter (λ (column : OutColumn). not (bytes_eq column.name name)) (OutIsMade (steps_made made after.steps)) writing.visible makes.columns.seen) there)
+
+-- inputs ------------------------------------------------------------------------------------------------------------------------
+
+-- the expression has some kind
+pub record HasSomeKind (context : Context) (columns : List Column) (expr : Expr) : Type 0 where
+  pub kind : Kind
+  pub is : kind_or_rule expr (scope_over context columns) ≡ Ok kind
+
+-- The column of an input is made, with the kind of the expression, and no column is lost.
+pub record InputIsFormed (made : List MadeColumn) (first : ℕ) (before after : Writing) (id : ColId) (kind : Kind) : Type 0 where
+  pub formed : IsFormed made first after
+  pub input : IsMadeAs (steps_made made after.steps) id kind
+  pub kept : (column : MadeColumn) → Contains (steps_made made before.steps) column → Contains (steps_made made after.steps) column
+
+pub input_formed : (made : List MadeColumn) (first : ℕ) (context : Context) (columns : List Column) (expr : Expr) (writing : Writing) → IsFormed made first writing → Shows writing columns
+    → HasSomeKind context columns expr → InputIsFormed made first writing (write_input writing expr) (input_of writing expr) (typed_in writing expr).kind
+input_formed made first context columns expr writing formed shows some = by_found (column_of_typed typed) refl
+  where
+    typed : TypedExpr
+    typed = typed_in writing expr
+
+    by_found : (found : Option ColId) → column_of_typed typed ≡ found → InputIsFormed made first writing (write_input_by found expr writing) (input_by found writing.next) typed.kind
+    by_found (Some id) is =
+        let reads : All (ReadIsMade (steps_made made writing.steps)) (columns_read typed) = typed_reads expr (steps_made made writing.steps) writing.visible formed.columns.seen _ _ in
+        record {
+          formed = formed;
+          input = All-head (ReadIsMade (steps_made made writing.steps)) (record { id = id; kind = typed.kind }) [] (All-same (ReadIsMade (steps_made made writing.steps)) _ _ (sym (column_read typed id is)) reads);
+          kept = λ column there. there;
+        }
+    by_found None is =
+        let new : MadeColumn = made_as (column_at writing.next) typed.kind in
+        let are = sym (steps_made-push made writing.steps (step.Eval (column_at writing.next) typed)) in
+        record {
+          formed = eval_formed made first writing formed context columns expr some.kind shows some.is;
+          input = subst (λ (these : List MadeColumn). Contains these new) are (made_first new (steps_made made writing.steps));
+          kept = λ column there. subst (λ (these : List MadeColumn). Contains these column) are (made_later new (steps_made made writing.steps) column there);
+        }
+
+module _ {Item : Type 0} (expr_of : Item → Expr) where
+  -- the columns of inputs in turn are made, with the kinds of the expressions
+  abbrev pub AreInputsMade : List MadeColumn → List Item → Writing → Type 0
+  AreInputsMade made [] writing = Unit {0}
+  AreInputsMade made (item ∷ items) writing =
+      IsMadeAs made (input_of writing (expr_of item)) (typed_in writing (expr_of item)).kind × AreInputsMade made items (write_input writing (expr_of item))
+
+  pub record InputsAreFormed (made : List MadeColumn) (first : ℕ) (items : List Item) (writing : Writing) : Type 0 where
+    pub formed : IsFormed made first (write_inputs expr_of items writing)
+    pub inputs : AreInputsMade (steps_made made (write_inputs expr_of items writing).steps) items writing
+    pub kept : (column : MadeColumn) → Contains (steps_made made writing.steps) column → Contains (steps_made made (write_inputs expr_of items writing).steps) column
+
+  pub inputs_formed : (made : List MadeColumn) (first : ℕ) (context : Context) (columns : List Column) (items : List Item) (writing : Writing) → IsFormed made first writing → Shows writing columns
+      → All (λ (item : Item). HasSomeKind context columns (expr_of item)) items → InputsAreFormed made first items writing
+  inputs_formed made first context columns [] writing formed shows kinds = record { formed = formed; inputs = tt; kept = λ column there. there }
+  inputs_formed made first context columns (item ∷ items) writing formed shows kinds =
+      let Kinded : Item → Type 0 = λ item. HasSomeKind context columns (expr_of item) in
+      let expr : Expr = expr_of item in
+      let one = input_formed made first context columns expr writing formed shows (All-head Kinded item items kinds) in
+      let rest = inputs_formed made first context columns items (write_input writing expr) one.formed (input_shows columns writing expr shows) (All-tail Kinded item items kinds) in
+      record {
+        formed = rest.formed;
+        inputs = (rest.kept (made_as (input_of writing expr) (typed_in writing expr).kind) one.input, rest.inputs);
+        kept = λ column there. rest.kept column (one.kept column there);
+      }
+
+-- SORT
+keys_kinds : (context : Context) (keys : List SortKey) (columns after : List Column) → shape_of_keys context keys columns ≡ Ok after → All (λ (key : SortKey). HasSomeKind context columns key.expr) keys
+keys_kinds context [] columns after is = All-nil (λ (key : SortKey). HasSomeKind context columns key.expr)
+keys_kinds context (key ∷ keys) columns after is =
+    let found = found_of (kind_or_rule key.expr (scope_over context columns)) (λ kind. shape_of_keys context keys columns) after is in
+    All-cons (λ (key : SortKey). HasSomeKind context columns key.expr) key keys (record { kind = found.value; is = found.is }) (keys_kinds context keys columns after found.next_is)
+
+keys_made : (made : List MadeColumn) (keys : List SortKey) (writing : Writing) → AreInputsMade expr_of_key made keys writing → All (λ (key : PlanKey). IsMade made key.id) (keys_in_plan keys writing)
+keys_made made [] writing inputs = All-nil (λ (key : PlanKey). IsMade made key.id)
+keys_made made (key ∷ keys) writing inputs =
+    All-cons (λ (key : PlanKey). IsMade made key.id) _ (keys_in_plan keys (write_input writing key.expr)) (is_made made (input_of writing key.expr) (typed_in writing key.expr).kind inputs.0)
+    (keys_made made keys (write_input writing key.expr) inputs.1)
+
+sort_formed : (made : List MadeColumn) (first : ℕ) (context : Context) (keys : List SortKey) (columns after : List Column) (writing : Writing) → IsFormed made first writing → Shows writing columns
+    → shape_of_keys context keys columns ≡ Ok after → IsFormed made first (write_sort keys writing)
+sort_formed made first context keys columns after writing formed shows is =
+    let inputs = inputs_formed expr_of_key made first context columns keys writing formed shows (keys_kinds context keys columns after is) in
+    step_formed made first (write_keys keys writing) inputs.formed (step.Sort (keys_in_plan keys writing)) refl
+    (λ bounds. keys_made (steps_made made (write_keys keys writing).steps) keys writing inputs.inputs)
 
 -- fields in turn
 pub fields_formed : (made : List MadeColumn) (first : ℕ) (context : Context) (fields : List Field) (columns after : List Column) (writing : Writing) → IsFormed made first writing → Shows writing columns
@@ -205,31 +320,38 @@ fields_formed made first context (field ∷ fields) columns after writing formed
     let found = found_of (shape_of_field context field columns) (shape_of_fields context fields) after is in
     let kinded = found_of (kind_or_rule field.expr (scope_over context columns)) (λ kind. Ok (put_column columns (name_of_field context.text field) kind)) found.value found.is in
     fields_formed made first context fields found.value after (write_field context.text writing field)
-    (field_formed made first writing formed context columns field kinded.value shows kinded.is)
+    (field_formed made first context columns field kinded.value writing formed shows kinded.is)
     (field_shows context field columns found.value writing shows found.is)
     found.next_is
 
+distinct_seen : (columns : List Column) (writing : Writing) → Shows writing columns → HaveDistinctNames columns → AreDistinct (visible_names writing.visible)
+distinct_seen columns writing shows distinct = subst AreDistinct (ap names_of shows ∙ names_of-columns writing.visible) distinct
+
 kind_formed : (made : List MadeColumn) (first : ℕ) (context : Context) (node : NodeId) (kind : CommandKind) (columns after : List Column) (writing : Writing) → IsFormed made first writing → Shows writing columns
-    → shape_of_kind context kind columns ≡ Ok after → IsFormed made first (write_kind context.text node kind writing)
-kind_formed made first context node (Filter condition) columns after writing formed shows is = condition_formed made first writing formed context columns after node condition shows is
-kind_formed made first context node (Eval fields) columns after writing formed shows is = fields_formed made first context fields columns after writing formed shows is
-kind_formed made first context node (Keep patterns) columns after writing formed shows is =
-    seen_formed made first writing formed _ (All-at_places (OutIsMade (steps_made made writing.steps)) _ writing.visible formed.seen)
-kind_formed made first context node (Drop patterns) columns after writing formed shows is =
-    seen_formed made first writing formed _ (All-at_places (OutIsMade (steps_made made writing.steps)) _ writing.visible formed.seen)
-kind_formed made first context node (Rename pairs) columns after writing formed shows is =
-    seen_formed made first writing formed _ (All-renamed_by (OutIsMade (steps_made made writing.steps)) _ (λ name column there. there) _ writing.visible formed.seen)
-kind_formed made first context node (Limit count) columns after writing formed shows is = limit_formed made first writing formed count
-kind_formed made first context node other columns after writing formed shows is = formed
+    → HaveDistinctNames columns → shape_of_kind context kind columns ≡ Ok after → IsFormed made first (write_kind context.text node kind writing)
+kind_formed made first context node (Filter condition) columns after writing formed shows distinct is = condition_formed made first writing formed context columns after node condition shows is
+kind_formed made first context node (Eval fields) columns after writing formed shows distinct is = fields_formed made first context fields columns after writing formed shows is
+kind_formed made first context node (Keep patterns) columns after writing formed shows distinct is =
+    seen_formed made first writing formed _ (All-at_places (OutIsMade (steps_made made writing.steps)) _ writing.visible formed.columns.seen)
+kind_formed made first context node (Drop patterns) columns after writing formed shows distinct is =
+    seen_formed made first writing formed _ (All-at_places (OutIsMade (steps_made made writing.steps)) _ writing.visible formed.columns.seen)
+kind_formed made first context node (Rename pairs) columns after writing formed shows distinct is =
+    seen_formed made first writing formed _ (All-renamed_by (OutIsMade (steps_made made writing.steps)) _ (λ name column there. there) _ writing.visible formed.columns.seen)
+kind_formed made first context node (Limit count) columns after writing formed shows distinct is = limit_formed made first writing formed count
+kind_formed made first context node (Sort keys) columns after writing formed shows distinct is = sort_formed made first context keys columns after writing formed shows is
+kind_formed made first context node (Expand column) columns after writing formed shows distinct is =
+    expand_formed made first writing formed column.name (visible_named writing.visible column.name) refl (distinct_seen columns writing shows distinct)
+kind_formed made first context node other columns after writing formed shows distinct is = formed
 
 -- commands in turn
 pub commands_formed : (made : List MadeColumn) (first : ℕ) (context : Context) (commands : List Command) (columns after : List Column) (writing : Writing) → IsFormed made first writing → Shows writing columns
-    → shape_of_commands context commands columns ≡ Ok after → IsFormed made first (fold (write_command context.text) writing commands)
-commands_formed made first context [] columns after writing formed shows is = formed
-commands_formed made first context (command ∷ commands) columns after writing formed shows is =
+    → HaveDistinctNames columns → shape_of_commands context commands columns ≡ Ok after → IsFormed made first (fold (write_command context.text) writing commands)
+commands_formed made first context [] columns after writing formed shows distinct is = formed
+commands_formed made first context (command ∷ commands) columns after writing formed shows distinct is =
     let found = found_of (shape_of_command context command columns) (shape_of_commands context commands) after is in
     let own = found_of (shape_of_kind context command.kind columns) (unless_empty command.span) found.value found.is in
     commands_formed made first context commands found.value after (write_command context.text writing command)
-    (kind_formed made first context command.node command.kind columns own.value writing formed shows own.is)
+    (kind_formed made first context command.node command.kind columns own.value writing formed shows distinct own.is)
     (command_shows context command columns found.value writing shows found.is)
+    (same_distinct own.value found.value (empty_is command.span own.value found.value own.next_is) (kind_distinct context command.kind columns own.value distinct own.is))
     found.next_is
