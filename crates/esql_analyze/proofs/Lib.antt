@@ -3,6 +3,10 @@ pub mod Stays
 pub mod ShapeStays
 pub mod Expressions
 pub mod FieldWrites
+pub mod Columned
+pub mod InputWrites
+pub mod SortWrites
+pub mod ExpandWrites
 pub mod Rooms
 pub mod Turns
 pub mod Heard

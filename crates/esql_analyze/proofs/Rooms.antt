@@ -9,9 +9,11 @@ use Rattle.std.proofs.lemmas.List.{length-append, length-map}
 use Rattle.std.proofs.lemmas.List.Elements.{All-head, All-tail, All-weaker}
 use Rattle.std.proofs.lemmas.Map.Steps.{length-le_from_distinct_below}
 use Rattle.esql_types.specs.declared.names.NodeId.{NodeId}
+use Rattle.esql_types.specs.declared.names.ColId.{ColId}
 use Rattle.esql_types.specs.declared.value.Kind.{Kind}
 use Rattle.esql_ast.specs.declared.expr.Expr.{Expr}
 use Rattle.esql_ast.specs.declared.query.Field.{Field}
+use Rattle.esql_ast.specs.declared.query.SortKey.{SortKey}
 use Rattle.esql_ast.specs.declared.query.Command.{Command}
 use Rattle.esql_ast.specs.declared.query.CommandKind.{CommandKind}
 use Rattle.esql_ast.specs.declared.query.CommandKind.TheVariants.{Filter, Eval, Keep, Drop, Rename, Sort, Limit, Expand, Stats, Dissect, Grok, Enrich, Join}
@@ -19,11 +21,11 @@ use Rattle.esql_ast.specs.declared.query.NamePattern.{NamePattern}
 use Rattle.esql_ast.specs.declared.query.RenamePair.{RenamePair}
 use Rattle.esql_ast.specs.NameRules.{Renaming, placed_from, placed, keep_places, drop_places, is_met, at_places, stays, with_new_name, rename_pair, is_there, with_pair, renamings, renamed_by}
 use Rattle.esql_ast.specs.NameLaws.{IsKept}
-use Rattle.esql_ast.specs.Nodes.{nodes_of_expr, nodes_of_field, nodes_of_kind, nodes_of_command}
+use Rattle.esql_ast.specs.Nodes.{nodes_of_expr, nodes_of_field, nodes_of_key, nodes_of_kind, nodes_of_command}
 use Rattle.esql_ast.proofs.KeptOnce.{kept_differ, kept_are_won}
 use Rattle.esql_plan.specs.declared.plan.OutColumn.{OutColumn}
-use Rattle.row_semantics.specs.Typed.{typing_of}
-use Rattle.query_semantics.specs.Written.{Writing, put_visible, visible_names, visible_as, typed_in, write_field, write_fields, write_condition, write_kind, write_command}
+use Rattle.row_semantics.specs.Typed.{typing_of, visible_named}
+use Rattle.query_semantics.specs.Written.{Writing, put_visible, visible_names, visible_as, typed_in, write_field, write_fields, write_condition, column_of_typed, write_input_by, write_input, write_keys, write_sort, renumbered, write_expand_of, write_expand, write_kind, write_command}
 use Rattle.row_semantics.specs.Fields.{name_of_field}
 use Rattle.esql_analyze.specs.Writings.{HasRoom}
 use Rattle.esql_analyze.proofs.Expressions.{patterns_at_most, some_node}
@@ -145,24 +147,63 @@ fewer_room writing visible taken more fewer room =
 same_room : (writing : Writing) (taken more : ℕ) → HasRoom writing (taken + more) → HasRoom writing more
 same_room writing taken more room = record { shown = room.shown; columns = omega (arith, room.columns); whole = omega (arith, room.whole); free = omega (arith, room.free) }
 
-kind_room : (text : List ℕ) (node : NodeId) (kind : CommandKind) (writing : Writing) (more : ℕ) → HasRoom writing (length (nodes_of_kind kind) + more) → HasRoom (write_kind text node kind writing) more
-kind_room text node (Filter condition) writing more room = condition_room node condition writing more room
-kind_room text node (Eval fields) writing more room = fields_room text fields writing more room
-kind_room text node (Keep patterns) writing more room = fewer_room writing _ 0 more (kept_shown patterns writing.visible) room
-kind_room text node (Drop patterns) writing more room = fewer_room writing _ 0 more (left_shown patterns writing.visible) room
-kind_room text node (Rename pairs) writing more room = fewer_room writing _ 0 more (renamed_shown pairs writing.visible) room
-kind_room text node (Limit count) writing more room = record { shown = room.shown; columns = omega (arith, room.columns); whole = omega (arith, room.whole); free = omega (arith, room.free) }
-kind_room text node (Sort keys) writing more room = same_room writing _ more room
-kind_room text node (Expand column) writing more room = same_room writing _ more room
-kind_room text node (Stats fields groups) writing more room = same_room writing _ more room
-kind_room text node (Dissect input pattern separator) writing more room = same_room writing _ more room
-kind_room text node (Grok input pattern) writing more room = same_room writing _ more room
-kind_room text node (Enrich policy on fields) writing more room = same_room writing _ more room
-kind_room text node (Join table on) writing more room = same_room writing _ more room
+pub input_room : (expr : Expr) (writing : Writing) (more : ℕ) → HasRoom writing (length (nodes_of_expr expr) + more) → HasRoom (write_input writing expr) more
+input_room expr writing more room = by_column (column_of_typed (typed_in writing expr))
+  where
+    by_column : (found : Option ColId) → HasRoom (write_input_by found expr writing) more
+    by_column (Some id) = same_room writing _ more room
+    by_column None =
+        let most = patterns_at_most expr in
+        let some = some_node expr in
+        record {
+          shown = omega (arith, room.shown);
+          columns = omega (arith, room.columns, some);
+          whole = omega (arith, room.whole, most.whole, length-append writing.whole (typing_of expr).whole);
+          free = omega (arith, room.free, most.free, length-append writing.free (typing_of expr).free);
+        }
+
+keys_room : (keys : List SortKey) (writing : Writing) (more : ℕ) → HasRoom writing (length (flat_map nodes_of_key keys) + more) → HasRoom (write_keys keys writing) more
+keys_room [] writing more room = same_room writing 0 more room
+keys_room (key ∷ keys) writing more room =
+    let both = length-append (nodes_of_key key) (flat_map nodes_of_key keys) in
+    let ahead : HasRoom writing (length (nodes_of_key key) + (length (flat_map nodes_of_key keys) + more)) =
+    record { shown = room.shown; columns = omega (arith, room.columns, both); whole = omega (arith, room.whole, both); free = omega (arith, room.free, both) } in
+    keys_room keys (write_input writing key.expr) more (input_room key.expr writing _ ahead)
+
+sort_room : (keys : List SortKey) (writing : Writing) (more : ℕ) → HasRoom writing (length (flat_map nodes_of_key keys) + more) → HasRoom (write_sort keys writing) more
+sort_room keys writing more room = let made = keys_room keys writing more room in record { shown = made.shown; columns = made.columns; whole = made.whole; free = made.free }
+
+expand_room : (name : List ℕ) (writing : Writing) (more : ℕ) → HasRoom writing (1 + more) → HasRoom (write_expand name writing) more
+expand_room name writing more room = by_column (visible_named writing.visible name)
+  where
+    by_column : (found : Option OutColumn) → HasRoom (write_expand_of found name writing) more
+    by_column None = same_room writing 1 more room
+    by_column (Some column) =
+        let shown = length-map writing.visible (renumbered name writing.next) in
+        record { shown = omega (arith, room.shown, shown); columns = omega (arith, room.columns); whole = omega (arith, room.whole); free = omega (arith, room.free) }
+
+-- a command's own node has room for the column that MV_EXPAND makes
+kind_room : (text : List ℕ) (node : NodeId) (kind : CommandKind) (writing : Writing) (more : ℕ) → HasRoom writing (length (nodes_of_kind kind) + more) → HasRoom writing (1 + more) → HasRoom (write_kind text node kind writing) more
+kind_room text node (Filter condition) writing more room own = condition_room node condition writing more room
+kind_room text node (Eval fields) writing more room own = fields_room text fields writing more room
+kind_room text node (Keep patterns) writing more room own = fewer_room writing _ 0 more (kept_shown patterns writing.visible) room
+kind_room text node (Drop patterns) writing more room own = fewer_room writing _ 0 more (left_shown patterns writing.visible) room
+kind_room text node (Rename pairs) writing more room own = fewer_room writing _ 0 more (renamed_shown pairs writing.visible) room
+kind_room text node (Limit count) writing more room own = record { shown = room.shown; columns = omega (arith, room.columns); whole = omega (arith, room.whole); free = omega (arith, room.free) }
+kind_room text node (Sort keys) writing more room own = sort_room keys writing more room
+kind_room text node (Expand column) writing more room own = expand_room column.name writing more own
+kind_room text node (Stats fields groups) writing more room own = same_room writing _ more room
+kind_room text node (Dissect input pattern separator) writing more room own = same_room writing _ more room
+kind_room text node (Grok input pattern) writing more room own = same_room writing _ more room
+kind_room text node (Enrich policy on fields) writing more room own = same_room writing _ more room
+kind_room text node (Join table on) writing more room own = same_room writing _ more room
 
 -- a command's own node comes before those of its expressions
 pub kinds_within : (command : Command) (writing : Writing) (more : ℕ) → HasRoom writing (length (nodes_of_command command) + more) → HasRoom writing (length (nodes_of_kind command.kind) + more)
 kinds_within command writing more room = record { shown = room.shown; columns = omega (arith, room.columns); whole = omega (arith, room.whole); free = omega (arith, room.free) }
 
+pub own_within : (command : Command) (writing : Writing) (more : ℕ) → HasRoom writing (length (nodes_of_command command) + more) → HasRoom writing (1 + more)
+own_within command writing more room = record { shown = room.shown; columns = omega (arith, room.columns); whole = omega (arith, room.whole); free = omega (arith, room.free) }
+
 pub command_room : (text : List ℕ) (command : Command) (writing : Writing) (more : ℕ) → HasRoom writing (length (nodes_of_command command) + more) → HasRoom (write_command text writing command) more
-command_room text command writing more room = kind_room text command.node command.kind writing more (kinds_within command writing more room)
+command_room text command writing more room = kind_room text command.node command.kind writing more (kinds_within command writing more room) (own_within command writing more room)

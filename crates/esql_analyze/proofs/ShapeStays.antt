@@ -1,12 +1,13 @@
 -- Where one more pattern is not accepted, the shapes of commands are as they were, or refuse at that pattern; and how refusals go
 -- on behind what was judged before.
-use Rattle.std.proofs.Common.{◌≡◌, inl, inr, ℕ, Bool, List, [], ◌∷◌, Result, Ok, refl, ap, ◌∙◌}
+use Rattle.std.proofs.Common.{◌≡◌, inl, inr, ℕ, Bool, List, [], ◌∷◌, Result, Ok, Err, refl, ap, ◌∙◌}
 use Rattle.std.specs.Prelude.{if◌then◌else◌}
 use Rattle.esql_types.specs.declared.value.Kind.{Kind}
 use Rattle.esql_types.specs.declared.value.Kind.TheVariants as kind
 use Rattle.esql_types.specs.declared.names.Column.{Column}
 use Rattle.esql_ast.specs.declared.expr.Expr.{Expr}
 use Rattle.esql_ast.specs.declared.query.Field.{Field}
+use Rattle.esql_ast.specs.declared.query.SortKey.{SortKey}
 use Rattle.esql_ast.specs.declared.query.Command.{Command}
 use Rattle.esql_ast.specs.declared.query.CommandKind.{CommandKind}
 use Rattle.esql_ast.specs.declared.query.CommandKind.TheVariants.{Filter, Eval, Keep, Drop, Rename, Sort, Limit, Expand, Stats, Dissect, Grok, Enrich, Join}
@@ -20,7 +21,7 @@ use Rattle.row_semantics.specs.Columns.{put_column}
 use Rattle.row_semantics.specs.Regulars.{Regular, is_accepted}
 use Rattle.row_semantics.specs.Scopes.{Broken, elsewhere}
 use Rattle.row_semantics.specs.Kinds.{breaks, and_then, kind_or_rule}
-use Rattle.query_semantics.specs.Shapes.{Shape, scope_over, shape_of_field, shape_of_fields, shape_of_condition, shape_of_kind, unless_empty, shape_of_command, shape_of_source}
+use Rattle.query_semantics.specs.Shapes.{Shape, Context, scope_over, shape_of_keys, shape_of_field, shape_of_fields, shape_of_condition, shape_of_kind, unless_empty, shape_of_command, shape_of_source}
 use Rattle.expression_analysis.specs.declared.error.AnalyzeError.{AnalyzeError}
 use Rattle.expression_analysis.specs.declared.error.AnalyzeError.TheVariants.{Broken as BrokenAt, PatternRoom, Memory}
 use Rattle.expression_analysis.specs.Answers.{accepted_but, IsRefusal}
@@ -69,13 +70,43 @@ condition_stays text condition columns =
     let next : (Regular → Bool) → Kind → Shape = λ accepts found. if is_kind kind.Boolean found then Ok columns else breaks rule.NotBoolean condition.span in
     then_stays (λ accepts. kind_or_rule condition (scope_over (over text accepts) columns)) next (expr_stays condition columns elsewhere) (λ found span. inl refl)
 
+-- a key has some kind, and leaves the columns
+abbrev pub shape_of_key : Context → SortKey → List Column → Shape
+shape_of_key context key columns = and_then (kind_or_rule key.expr (scope_over context columns)) (λ kind. Ok columns)
+
+-- the keys behind one that has a kind
+pub keys_more : (context : Context) (key : SortKey) (keys : List SortKey) (columns : List Column)
+    → shape_of_keys context (key ∷ keys) columns ≡ and_then (shape_of_key context key columns) (shape_of_keys context keys)
+keys_more context key keys columns = by_kind (kind_or_rule key.expr (scope_over context columns))
+  where
+    by_kind : (found : Result Kind Broken) → and_then found (λ kind. shape_of_keys context keys columns) ≡ and_then (and_then found (λ kind. Ok columns)) (shape_of_keys context keys)
+    by_kind (Ok kind) = refl
+    by_kind (Err broken) = refl
+
+pub key_stays : (text : List ℕ) (key : SortKey) (columns : List Column) → Stays (λ accepts. shape_of_key (over text accepts) key columns)
+key_stays text key columns =
+    let next : (Regular → Bool) → Kind → Shape = λ accepts kind. Ok columns in
+    then_stays (λ accepts. kind_or_rule key.expr (scope_over (over text accepts) columns)) next (expr_stays key.expr columns elsewhere) (λ kind span. inl refl)
+
+keys_stay : (text : List ℕ) (keys : List SortKey) (columns : List Column) → Stays (λ accepts. shape_of_keys (over text accepts) keys columns)
+keys_stay text [] columns span = inl refl
+keys_stay text (key ∷ keys) columns span =
+    let next : (Regular → Bool) → Kind → Shape = λ accepts kind. shape_of_keys (over text accepts) keys columns in
+    then_stays (λ accepts. kind_or_rule key.expr (scope_over (over text accepts) columns)) next (expr_stays key.expr columns elsewhere) (λ kind. keys_stay text keys columns) span
+
+-- keys do not look at the text
+pub keys_alike : (text other : List ℕ) (accepts : Regular → Bool) (keys : List SortKey) (columns : List Column) → shape_of_keys (over text accepts) keys columns ≡ shape_of_keys (over other accepts) keys columns
+keys_alike text other accepts [] columns = refl
+keys_alike text other accepts (key ∷ keys) columns =
+    ap (λ (rest : Shape). and_then (kind_or_rule key.expr (scope_over (over text accepts) columns)) (λ kind. rest)) (keys_alike text other accepts keys columns)
+
 pub kind_stays : (text : List ℕ) (command : CommandKind) (columns : List Column) → Stays (λ accepts. shape_of_kind (over text accepts) command columns)
 kind_stays text (Filter condition) columns span = condition_stays text condition columns span
 kind_stays text (Eval fields) columns span = fields_stay text fields columns span
 kind_stays text (Keep patterns) columns span = inl refl
 kind_stays text (Drop patterns) columns span = inl refl
 kind_stays text (Rename pairs) columns span = inl refl
-kind_stays text (Sort keys) columns span = inl refl
+kind_stays text (Sort keys) columns span = keys_stay text keys columns span
 kind_stays text (Limit count) columns span = inl refl
 kind_stays text (Expand column) columns span = inl refl
 kind_stays text (Stats fields groups) columns span = inl refl

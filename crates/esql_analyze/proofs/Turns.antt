@@ -8,21 +8,22 @@ use Rattle.std.specs.Result.{IsErrAnd}
 use Rattle.esql_types.specs.declared.names.Column.{Column}
 use Rattle.esql_ast.specs.declared.nodes.NodeAt.{NodeAt}
 use Rattle.esql_ast.specs.declared.query.Field.{Field}
+use Rattle.esql_ast.specs.declared.query.SortKey.{SortKey}
 use Rattle.esql_ast.specs.declared.query.Command.{Command}
-use Rattle.esql_ast.specs.Nodes.{nodes_of_field, nodes_of_command}
+use Rattle.esql_ast.specs.Nodes.{nodes_of_field, nodes_of_key, nodes_of_command}
 use Rattle.plan_semantics.specs.Plans.{columns_of}
 use Rattle.row_semantics.specs.Regulars.{Regular, is_accepted}
 use Rattle.row_semantics.specs.Kinds.{and_then}
-use Rattle.query_semantics.specs.Shapes.{Shape, shape_of_field, shape_of_fields, shape_of_command, shape_of_commands}
-use Rattle.query_semantics.specs.Written.{Writing, write_field, write_command}
+use Rattle.query_semantics.specs.Shapes.{Shape, shape_of_field, shape_of_fields, shape_of_keys, shape_of_command, shape_of_commands}
+use Rattle.query_semantics.specs.Written.{Writing, write_field, write_input, write_command}
 use Rattle.expression_analysis.specs.declared.error.AnalyzeError.{AnalyzeError}
 use Rattle.expression_analysis.specs.Answers.{IsRefusal}
 use Rattle.esql_analyze.specs.declared.writing.Writing.{Writing as Made}
 use Rattle.esql_analyze.specs.Contexts.{over}
 use Rattle.esql_analyze.specs.Writings.{seen, HasRoom}
 use Rattle.esql_analyze.proofs.Stays.{Stays}
-use Rattle.esql_analyze.proofs.ShapeStays.{refused_behind, refused_first, refused_as, field_stays, command_stays}
-use Rattle.esql_analyze.proofs.Rooms.{field_room, command_room}
+use Rattle.esql_analyze.proofs.ShapeStays.{refused_behind, refused_first, refused_as, field_stays, shape_of_key, keys_more, key_stays, command_stays}
+use Rattle.esql_analyze.proofs.Rooms.{field_room, input_room, command_room}
 
 -- items that are written in turn
 pub record Turn (Item : Type 0) : Type 0 where
@@ -45,6 +46,18 @@ fields_turn text = record {
   more = λ accepts field fields columns. refl;
   stays = field_stays text;
   room = field_room text;
+}
+
+abbrev pub keys_turn : Turn SortKey
+keys_turn = record {
+  shape = λ accepts. shape_of_key (over [] accepts);
+  shapes = λ accepts. shape_of_keys (over [] accepts);
+  write = λ writing key. write_input writing key.expr;
+  nodes = nodes_of_key;
+  none = λ accepts columns. refl;
+  more = λ accepts. keys_more (over [] accepts);
+  stays = key_stays [];
+  room = λ key. input_room key.expr;
 }
 
 abbrev pub commands_turn : List ℕ → Turn Command

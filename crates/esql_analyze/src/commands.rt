@@ -1,7 +1,7 @@
 ghost use Rattle.std.specs.Prelude.{◌≡◌, true, All, fold, length};
 ghost use Rattle.std.specs.List.{flat_map};
 ghost use Rattle.esql_ast.specs.Fits.{KindFits};
-ghost use Rattle.esql_ast.specs.Nodes.{nodes_of_kind, nodes_of_command};
+ghost use Rattle.esql_ast.specs.Nodes.{nodes_of_command};
 ghost use Rattle.plan_semantics.specs.Plans.{columns_of};
 ghost use Rattle.query_semantics.specs.Built.{is_built_kind};
 ghost use Rattle.query_semantics.specs.Shapes.{shape_of_kind, shape_of_command, shape_of_commands};
@@ -11,8 +11,10 @@ ghost use Rattle.esql_analyze.specs.Writings.{seen, HasRoom};
 ghost use Rattle.esql_analyze.specs.Answers.{Writes, Hears};
 ghost use Rattle.esql_analyze.specs.Regulars.{regulars_of_kind, regulars_of_command};
 
+use crate::expand::write_expand;
 use crate::fields::{write_condition, write_fields};
 use crate::names::{write_drop, write_keep, write_rename};
+use crate::sort::write_sort;
 use crate::writing::{Writing, unless_empty, write_limit};
 use esql_ast::{Command, CommandKind};
 use esql_types::Maker;
@@ -28,7 +30,7 @@ fn write_kind<M: Maker>(
 ) -> Result<Writing, AnalyzeError>
     requires fits { KindFits text.now command.now.kind }
     requires built { is_built_kind command.now.kind ≡ true }
-    requires room { HasRoom (seen writing) (length (nodes_of_kind command.now.kind)) }
+    requires room { HasRoom (seen writing) (length (nodes_of_command command.now)) }
     ensures writes { Writes (λ accepts. shape_of_kind (over text.now accepts) command.now.kind (columns_of writing.visible)) (write_kind text.now command.now.node command.now.kind (seen writing)) result }
     ensures hears { Hears M.refused M.last (regulars_of_kind command.now.kind) maker.old maker.new result }
 {
@@ -42,7 +44,9 @@ fn write_kind<M: Maker>(
         CommandKind::Keep { patterns } => write_keep(alloc, writing, patterns),
         CommandKind::Drop { patterns } => write_drop(alloc, writing, patterns),
         CommandKind::Rename { pairs } => write_rename(alloc, writing, pairs),
+        CommandKind::Sort { keys } => write_sort(alloc, writing, keys.as_slice(), maker),
         CommandKind::Limit { count } => Ok(write_limit(*count, writing)?),
+        CommandKind::Expand { column } => write_expand(alloc, writing, column),
         _ => unreachable!(),
     }
 }

@@ -5,9 +5,12 @@
 
 mod columns;
 mod commands;
+mod expand;
 mod fields;
+mod inputs;
 mod names;
 mod query;
+mod sort;
 mod source;
 mod writing;
 
