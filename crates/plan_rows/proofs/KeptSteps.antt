@@ -23,8 +23,9 @@ use Rattle.plan_semantics.specs.WellFormed.{Bounds, MadeColumn, StepStands, Step
 use Rattle.plan_semantics.proofs.RowKinds.{all_flat, all_sorted}
 use Rattle.plan_semantics.proofs.Below.{failures_below}
 use Rattle.plan_rows.specs.Kept.{rows_of, AreWide, kept_gives, kept_rows, kept_failures, expanded_cells, order_of_kept}
-use Rattle.plan_rows.specs.Runs.{CanRun, FailsBelow, HaveCell}
+use Rattle.plan_rows.specs.Runs.{CanRun, FailsBelow, StatsFailBelow, HaveCell}
 use Rattle.plan_rows.proofs.NumberedRows.{row_of-set}
+use Rattle.plan_rows.proofs.StatsRows.{rows_of-stats, wide-stats, stats_run}
 
 -- lists ------------------------------------------------------------------------------------------------------------------------
 
@@ -91,7 +92,7 @@ module _ (whole free : List (List ℕ)) (columns : ℕ) where
   gives_rows (Sort keys) run row wide = refl
   gives_rows (TopN keys count) run row wide = refl
   gives_rows (Limit count) run row wide = refl
-  gives_rows (Stats aggregates groups) run row wide = absurd run
+  gives_rows (Stats aggregates groups) run row wide = refl
   gives_rows (Dissect node input cutter to) run row wide = absurd run
   gives_rows (Grok node input cutter to) run row wide = absurd run
   gives_rows (Enrich policy on fields to) run row wide = absurd run
@@ -101,7 +102,7 @@ module _ (whole free : List (List ℕ)) (columns : ℕ) where
   each_row step run rows wide = map_flat (kept_gives step) (step_gives step) row_of row_of (IsWide columns) (gives_rows step run) rows wide
 
   pub rows_of-step : (step : Step) → CanRun whole free columns step → (rows : List (List (List Value))) → AreWide columns rows
-      → rows_of (kept_rows step rows) ≡ step_rows step (rows_of rows)
+      → rows_of (kept_rows columns step rows) ≡ step_rows step (rows_of rows)
   rows_of-step (Eval to expr) run rows wide = each_row (Eval to expr) run rows wide
   rows_of-step (Filter node condition) run rows wide = each_row (Filter node condition) run rows wide
   rows_of-step (Expand id to) run rows wide = each_row (Expand id to) run rows wide
@@ -109,7 +110,7 @@ module _ (whole free : List (List ℕ)) (columns : ℕ) where
   rows_of-step (TopN keys count) run rows wide =
       map_take row_of count (sorted_by (order_of_kept keys) rows) ∙ ap (take count) (sorted_mapped (order_of_rows keys) row_of rows)
   rows_of-step (Limit count) run rows wide = map_take row_of count rows
-  rows_of-step (Stats aggregates groups) run rows wide = absurd run
+  rows_of-step (Stats aggregates groups) run rows wide = rows_of-stats columns aggregates groups run rows
   rows_of-step (Dissect node input cutter to) run rows wide = absurd run
   rows_of-step (Grok node input cutter to) run rows wide = absurd run
   rows_of-step (Enrich policy on fields to) run rows wide = absurd run
@@ -128,7 +129,7 @@ module _ (whole free : List (List ℕ)) (columns : ℕ) where
   gives_wide (Sort keys) row wide = All-cons (IsWide columns) row [] wide (All-nil (IsWide columns))
   gives_wide (TopN keys count) row wide = All-cons (IsWide columns) row [] wide (All-nil (IsWide columns))
   gives_wide (Limit count) row wide = All-cons (IsWide columns) row [] wide (All-nil (IsWide columns))
-  gives_wide (Stats aggregates groups) row wide = All-cons (IsWide columns) row [] wide (All-nil (IsWide columns))
+  gives_wide (Stats aggregates groups) row wide = All-nil (IsWide columns)
   gives_wide (Dissect node input cutter to) row wide = All-cons (IsWide columns) row [] wide (All-nil (IsWide columns))
   gives_wide (Grok node input cutter to) row wide = All-cons (IsWide columns) row [] wide (All-nil (IsWide columns))
   gives_wide (Enrich policy on fields to) row wide = All-cons (IsWide columns) row [] wide (All-nil (IsWide columns))
@@ -136,26 +137,35 @@ module _ (whole free : List (List ℕ)) (columns : ℕ) where
   abbrev each_wide : (step : Step) (rows : List (List (List Value))) → AreWide columns rows → AreWide columns (flat_map (kept_gives step) rows)
   each_wide step rows wide = all_flat (IsWide columns) (IsWide columns) (kept_gives step) (gives_wide step) rows wide
 
-  pub wide-step : (step : Step) (rows : List (List (List Value))) → AreWide columns rows → AreWide columns (kept_rows step rows)
+  pub wide-step : (step : Step) (rows : List (List (List Value))) → AreWide columns rows → AreWide columns (kept_rows columns step rows)
   wide-step (Eval to expr) rows wide = each_wide (Eval to expr) rows wide
   wide-step (Filter node condition) rows wide = each_wide (Filter node condition) rows wide
   wide-step (Expand id to) rows wide = each_wide (Expand id to) rows wide
   wide-step (Sort keys) rows wide = all_sorted (IsWide columns) (order_of_kept keys) rows wide
   wide-step (TopN keys count) rows wide = All-take (IsWide columns) count (sorted_by (order_of_kept keys) rows) (all_sorted (IsWide columns) (order_of_kept keys) rows wide)
   wide-step (Limit count) rows wide = All-take (IsWide columns) count rows wide
-  wide-step (Stats aggregates groups) rows wide = wide
+  wide-step (Stats aggregates groups) rows wide = wide-stats columns aggregates groups rows
   wide-step (Dissect node input cutter to) rows wide = wide
   wide-step (Grok node input cutter to) rows wide = wide
   wide-step (Enrich policy on fields to) rows wide = wide
 
 -- the failures of a step on the rows of numbered columns
 pub failures_of-step : (step : Step) (rows : List (List (List Value))) → kept_failures step rows ≡ step_failures step (rows_of rows)
-failures_of-step step rows = sym (flat_map-map (step_fails step) row_of rows)
+failures_of-step (Eval to expr) rows = sym (flat_map-map (step_fails (Eval to expr)) row_of rows)
+failures_of-step (Filter node condition) rows = sym (flat_map-map (step_fails (Filter node condition)) row_of rows)
+failures_of-step (Expand id to) rows = sym (flat_map-map (step_fails (Expand id to)) row_of rows)
+failures_of-step (Sort keys) rows = sym (flat_map-map (step_fails (Sort keys)) row_of rows)
+failures_of-step (TopN keys count) rows = sym (flat_map-map (step_fails (TopN keys count)) row_of rows)
+failures_of-step (Limit count) rows = sym (flat_map-map (step_fails (Limit count)) row_of rows)
+failures_of-step (Stats aggregates groups) rows = refl
+failures_of-step (Dissect node input cutter to) rows = sym (flat_map-map (step_fails (Dissect node input cutter to)) row_of rows)
+failures_of-step (Grok node input cutter to) rows = sym (flat_map-map (step_fails (Grok node input cutter to)) row_of rows)
+failures_of-step (Enrich policy on fields to) rows = sym (flat_map-map (step_fails (Enrich policy on fields to)) row_of rows)
 
--- a step that never fails
-pub no_failures : (step : Step) → ((row : NumberedRow) → step_fails step row ≡ []) → (rows : List (List (List Value))) → kept_failures step rows ≡ []
-no_failures step none [] = refl
-no_failures step none (row ∷ rows) = λ i. none (row_of row) i ++ no_failures step none rows i
+-- what fails on no row
+pub no_failures : (fails : NumberedRow → List Failure) → ((row : NumberedRow) → fails row ≡ []) → (rows : List (List (List Value))) → flat_map (λ row. fails (row_of row)) rows ≡ []
+no_failures fails none [] = refl
+no_failures fails none (row ∷ rows) = λ i. none (row_of row) i ++ no_failures fails none rows i
 
 -- plans that are well formed -----------------------------------------------------------------------------------------------------
 
@@ -166,7 +176,7 @@ can_run bounds made (Expand id to) stands = stands.1.below
 can_run bounds made (Sort keys) stands = tt
 can_run bounds made (TopN keys count) stands = tt
 can_run bounds made (Limit count) stands = tt
-can_run bounds made (Stats aggregates groups) stands = stands
+can_run bounds made (Stats aggregates groups) stands = stats_run bounds made aggregates groups stands
 can_run bounds made (Dissect node input cutter to) stands = stands
 can_run bounds made (Grok node input cutter to) stands = stands
 can_run bounds made (Enrich policy on fields to) stands = stands
@@ -184,10 +194,46 @@ below_more nodes more less (failure ∷ failures) below =
     All-cons (λ (failure : Failure). failure.node.0 < more) failure failures (omega (arith, here, less))
     (below_more nodes more less failures (All-tail (λ (failure : Failure). failure.node.0 < nodes) failure failures below))
 
-one_below : (bounds : Bounds) (made : List MadeColumn) (step : Step) → StepStands bounds made step → (row : NumberedRow) → AreBelow bounds.nodes (step_fails step row)
-one_below bounds made step stands row =
-    subst (AreBelow bounds.nodes) (append-nil (step_fails step row ++ []) ∙ append-nil (step_fails step row))
+-- the failures of a step that works row by row, on one row
+one_row : (bounds : Bounds) (made : List MadeColumn) (step : Step) → StepStands bounds made step → (row : NumberedRow)
+    → step_failures step (row ∷ []) ≡ step_fails step row ++ [] → AreBelow bounds.nodes (step_fails step row)
+one_row bounds made step stands row alone =
+    subst (AreBelow bounds.nodes) (append-nil (step_failures step (row ∷ [])) ∙ alone ∙ append-nil (step_fails step row))
     (failures_below bounds [] made (step ∷ []) (stands, All-nil (λ (out : OutColumn). IsMadeAs (step_made made step) out.id out.kind)) (row ∷ []))
+
+one_below : (bounds : Bounds) (made : List MadeColumn) (step : Step) → StepStands bounds made step → (row : NumberedRow) → AreBelow bounds.nodes (step_fails step row)
+one_below bounds made (Eval to expr) stands row = one_row bounds made (Eval to expr) stands row refl
+one_below bounds made (Filter node condition) stands row = one_row bounds made (Filter node condition) stands row refl
+one_below bounds made (Expand id to) stands row = one_row bounds made (Expand id to) stands row refl
+one_below bounds made (Sort keys) stands row = one_row bounds made (Sort keys) stands row refl
+one_below bounds made (TopN keys count) stands row = one_row bounds made (TopN keys count) stands row refl
+one_below bounds made (Limit count) stands row = one_row bounds made (Limit count) stands row refl
+one_below bounds made (Stats aggregates groups) stands row = All-nil (λ (failure : Failure). failure.node.0 < bounds.nodes)
+one_below bounds made (Dissect node input cutter to) stands row = one_row bounds made (Dissect node input cutter to) stands row refl
+one_below bounds made (Grok node input cutter to) stands row = one_row bounds made (Grok node input cutter to) stands row refl
+one_below bounds made (Enrich policy on fields to) stands row = one_row bounds made (Enrich policy on fields to) stands row refl
+
+-- the failures of groups, over all rows
+groups_below : (bounds : Bounds) (made : List MadeColumn) (step : Step) → StepStands bounds made step → (nodes : ℕ) → bounds.nodes ≤ nodes → StatsFailBelow nodes step
+groups_below bounds made (Eval to expr) stands nodes within = tt
+groups_below bounds made (Filter node condition) stands nodes within = tt
+groups_below bounds made (Expand id to) stands nodes within = tt
+groups_below bounds made (Sort keys) stands nodes within = tt
+groups_below bounds made (TopN keys count) stands nodes within = tt
+groups_below bounds made (Limit count) stands nodes within = tt
+groups_below bounds made (Stats aggregates groups) stands nodes within = λ rows.
+    below_more bounds.nodes nodes within (step_failures (Stats aggregates groups) rows)
+    (subst (AreBelow bounds.nodes) (append-nil (step_failures (Stats aggregates groups) rows))
+    (failures_below bounds [] made (Stats aggregates groups ∷ []) (stands, All-nil (λ (out : OutColumn). IsMadeAs (step_made made (Stats aggregates groups)) out.id out.kind)) rows))
+groups_below bounds made (Dissect node input cutter to) stands nodes within = tt
+groups_below bounds made (Grok node input cutter to) stands nodes within = tt
+groups_below bounds made (Enrich policy on fields to) stands nodes within = tt
+
+pub all_groups_below : (bounds : Bounds) (output : List OutColumn) (made : List MadeColumn) (steps : List Step) (nodes : ℕ) → bounds.nodes ≤ nodes → StepsStand bounds output made steps
+    → All (StatsFailBelow nodes) steps
+all_groups_below bounds output made [] nodes within stands = All-nil (StatsFailBelow nodes)
+all_groups_below bounds output made (step ∷ steps) nodes within stands =
+    All-cons (StatsFailBelow nodes) step steps (groups_below bounds made step stands.0 nodes within) (all_groups_below bounds output (step_made made step) steps nodes within stands.1)
 
 pub all_below : (bounds : Bounds) (output : List OutColumn) (made : List MadeColumn) (steps : List Step) (nodes : ℕ) → bounds.nodes ≤ nodes → StepsStand bounds output made steps
     → All (FailsBelow nodes) steps

@@ -7,7 +7,6 @@ use Rattle.std.specs.Cmp.{IsTotalOrder, then_total, on_total, back_total, nat_cm
 use Rattle.std.specs.Cmp.Lexicographic.{options_total}
 use Rattle.std.specs.declared.cmp.Ordering.{Ordering}
 use Rattle.esql_types.specs.declared.value.Value.{Value}
-use Rattle.esql_types.specs.declared.names.ColId.{ColId}
 use Rattle.esql_types.specs.Values.{value_cmp}
 use Rattle.plain_functions.specs.ValueOrder.{value_total}
 use Rattle.esql_plan.specs.declared.step.PlanKey.{PlanKey}
@@ -35,26 +34,25 @@ way_total false = on_total first_in (options_total value_total)
 abbrev by_sides : Bool → Bool → List Value → List Value → Ordering
 by_sides descending nulls_first = then_cmp (on (side nulls_first) nat_cmp) (way descending)
 
-same_order : (id : ColId) (descending nulls_first : Bool) (this that : List Value)
-    → by_sides descending nulls_first this that ≡ order_of_values (record { id = id; descending = descending; nulls_first = nulls_first }) this that
-same_order id true true [] [] = refl
-same_order id true false [] [] = refl
-same_order id false true [] [] = refl
-same_order id false false [] [] = refl
-same_order id d true [] (that ∷ those) = refl
-same_order id d false [] (that ∷ those) = refl
-same_order id d true (this ∷ these) [] = refl
-same_order id d false (this ∷ these) [] = refl
-same_order id true n (this ∷ these) (that ∷ those) = refl
-same_order id false n (this ∷ these) (that ∷ those) = refl
+same_order : (descending nulls_first : Bool) (this that : List Value) → by_sides descending nulls_first this that ≡ order_of_values descending nulls_first this that
+same_order true true [] [] = refl
+same_order true false [] [] = refl
+same_order false true [] [] = refl
+same_order false false [] [] = refl
+same_order d true [] (that ∷ those) = refl
+same_order d false [] (that ∷ those) = refl
+same_order d true (this ∷ these) [] = refl
+same_order d false (this ∷ these) [] = refl
+same_order true n (this ∷ these) (that ∷ those) = refl
+same_order false n (this ∷ these) (that ∷ those) = refl
 
-values_total : (key : PlanKey) → IsTotalOrder (order_of_values key)
-values_total key = subst IsTotalOrder (λ i this that. same_order key.id key.descending key.nulls_first this that i)
+values_total : (key : PlanKey) → IsTotalOrder (order_of_values key.descending key.nulls_first)
+values_total key = subst IsTotalOrder (λ i this that. same_order key.descending key.nulls_first this that i)
     (then_total (on_total (side key.nulls_first) nat_cmp_total) (way_total key.descending))
 
 rows_total : (keys : List PlanKey) → IsTotalOrder (order_of_rows keys)
 rows_total [] = on_total (λ (row : NumberedRow). 0) nat_cmp_total
-rows_total (key ∷ keys) = then_total (on_total (λ (row : NumberedRow). sort_value key (row key.id.0)) (values_total key)) (rows_total keys)
+rows_total (key ∷ keys) = then_total (on_total (λ (row : NumberedRow). sort_value key.descending (row key.id.0)) (values_total key)) (rows_total keys)
 
 pub kept_total : (keys : List PlanKey) → IsTotalOrder (order_of_kept keys)
 kept_total keys = on_total row_of (rows_total keys)

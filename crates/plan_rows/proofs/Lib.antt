@@ -2,6 +2,7 @@ pub mod StableSorts
 pub mod KeyOrders
 pub mod NumberedRows
 pub mod KeptSteps
+pub mod StatsRows
 pub mod Scans
 pub mod Turns
 pub mod Backward

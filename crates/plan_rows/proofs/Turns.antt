@@ -23,7 +23,7 @@ next_step steps place step within is =
     ∙ ap (λ next. step ∷ drop next steps) (sym (add-one place))
 
 module _ (whole free : List (List ℕ)) (columns : ℕ) (steps : List Step) (place : ℕ) (step : Step) (rows new : List (List (List Value)))
-    (within : place < length steps) (is : step ≡ get_or steps place step) (run : CanRun whole free columns step) (wide : AreWide columns rows) (made : new ≡ kept_rows step rows) where
+    (within : place < length steps) (is : step ≡ get_or steps place step) (run : CanRun whole free columns step) (wide : AreWide columns rows) (made : new ≡ kept_rows columns step rows) where
   new_rows : rows_of new ≡ step_rows step (rows_of rows)
   new_rows = ap rows_of made ∙ rows_of-step whole free columns step run rows wide
 

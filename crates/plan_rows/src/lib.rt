@@ -6,6 +6,7 @@
 mod order;
 mod run;
 mod source;
+mod stats;
 mod steps;
 #[cfg(test)]
 mod tests;

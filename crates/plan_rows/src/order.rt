@@ -49,22 +49,22 @@ fn compare_rows(keys: &[PlanKey], left: &Seq<Cell>, right: &Seq<Cell>) -> Orderi
 }
 
 fn compare_at(key: PlanKey, left: &Seq<Cell>, right: &Seq<Cell>) -> Ordering
-    ensures { result ≡ order_of_cells key (slice_index_or left.now key.id.0 []) (slice_index_or right.now key.id.0 []) }
+    ensures { result ≡ order_of_cells key.descending key.nulls_first (slice_index_or left.now key.id.0 []) (slice_index_or right.now key.id.0 []) }
 {
     let place = key.id.0 as usize;
     compare_keys(
         key,
-        sort_value(key, left.at(place)),
-        sort_value(key, right.at(place)),
+        sort_value(key.descending, left.at(place)),
+        sort_value(key.descending, right.at(place)),
     )
 }
 
 /// The value that a cell is sorted by, which null has not.
-fn sort_value(key: PlanKey, cell: Option<&Cell>) -> Option<&Value>
-    ensures { option_to_list (option_copied result) ≡ sort_value key (unwrap_or (option_copied cell.entry) []) }
+fn sort_value(descending: bool, cell: Option<&Cell>) -> Option<&Value>
+    ensures { option_to_list (option_copied result) ≡ sort_value descending (unwrap_or (option_copied cell.entry) []) }
 {
     let cell = cell?;
-    if key.descending {
+    if descending {
         greatest(cell.as_slice())
     } else {
         least(cell.as_slice())
@@ -72,7 +72,7 @@ fn sort_value(key: PlanKey, cell: Option<&Cell>) -> Option<&Value>
 }
 
 fn compare_keys(key: PlanKey, left: Option<&Value>, right: Option<&Value>) -> Ordering
-    ensures { result ≡ order_of_values key (option_to_list (option_copied left.entry)) (option_to_list (option_copied right.entry)) }
+    ensures { result ≡ order_of_values key.descending key.nulls_first (option_to_list (option_copied left.entry)) (option_to_list (option_copied right.entry)) }
 {
     match (left, right) {
         (None, None) => Ordering::Equal,

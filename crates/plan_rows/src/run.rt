@@ -7,10 +7,11 @@ ghost use Rattle.plan_semantics.specs.WellFormed.{IsWellFormed, AreTables};
 ghost use Rattle.warn_log.specs.Logs.{logged};
 ghost use Rattle.plan_rows.specs.Held.{tables_held};
 ghost use Rattle.plan_rows.specs.Kept.{rows_of, AreWide, kept_rows, kept_failures};
-ghost use Rattle.plan_rows.specs.Runs.{CanRun, FailsBelow};
+ghost use Rattle.plan_rows.specs.Runs.{CanRun, FailsBelow, StatsFailBelow};
 
 use crate::order::{first_rows, sort_rows};
 use crate::source::{cell_of, source_rows};
+use crate::stats::stats_rows;
 use crate::steps::{eval_rows, expand_rows, filter_rows};
 use esql_plan::{Catalog, OutColumn, Plan, Step};
 use esql_types::{Cell, Seq};
@@ -62,6 +63,7 @@ fn run_steps(
     requires run { All (CanRun patterns.now.whole patterns.now.free columns) steps.now }
     requires wide { AreWide columns source }
     requires fails { All (FailsBelow (length log.old)) steps.now }
+    requires stats { All (StatsFailBelow (length log.old)) steps.now }
     ensures rows { IfOk result (λ rows. rows_of rows ≡ rows_after steps.now (rows_of source)) }
     ensures log { OnOk result (log.new ≡ logged log.old (failures_after steps.now (rows_of source))) }
     ensures nodes { OnOk result (length log.new ≡ length log.old) }
@@ -85,7 +87,8 @@ fn run_step(
     requires run { CanRun patterns.now.whole patterns.now.free columns step.now }
     requires wide { AreWide columns rows }
     requires fails { FailsBelow (length log.old) step.now }
-    ensures rows { IfOk result (λ new. new ≡ kept_rows step.now rows) }
+    requires stats { StatsFailBelow (length log.old) step.now }
+    ensures rows { IfOk result (λ new. new ≡ kept_rows columns step.now rows) }
     ensures log { OnOk result (log.new ≡ logged log.old (kept_failures step.now rows)) }
     ensures nodes { OnOk result (length log.new ≡ length log.old) }
 {
@@ -101,7 +104,14 @@ fn run_step(
             Ok(first_rows(sorted, *count))
         }
         Step::Limit { count } => Ok(first_rows(rows, *count)),
-        Step::Stats { .. } => unreachable!(),
+        Step::Stats { aggregates, groups } => stats_rows(
+            alloc,
+            aggregates.as_slice(),
+            groups.as_slice(),
+            columns,
+            rows,
+            log,
+        ),
         Step::Dissect { .. } => unreachable!(),
         Step::Grok { .. } => unreachable!(),
         Step::Enrich { .. } => unreachable!(),

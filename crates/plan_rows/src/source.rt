@@ -49,13 +49,20 @@ pub(crate) fn source_rows(
 fn one_row(alloc: Global, columns: u32) -> Result<Seq<Seq<Cell>>, AllocError>
     ensures { IfOk result (λ rows. rows ≡ replicate columns [] ∷ []) }
 {
+    let mut rows = Seq::new(alloc);
+    rows.push(nulls(alloc, columns)?)?;
+    Ok(rows)
+}
+
+/// A row of so many nulls.
+pub(crate) fn nulls(alloc: Global, columns: u32) -> Result<Seq<Cell>, AllocError>
+    ensures { IfOk result (λ row. row ≡ replicate columns []) }
+{
     let mut row = Seq::new(alloc);
     for _ in 0..columns {
         row.push(Cell::null(alloc))?;
     }
-    let mut rows = Seq::new(alloc);
-    rows.push(row)?;
-    Ok(rows)
+    Ok(row)
 }
 
 /// The rows of the tables of the numbers, one table after another.

@@ -65,7 +65,7 @@ fn value_noted(
 }
 
 /// Notes failures in order.
-fn note_failures(log: &mut Log, failures: Seq<Failure>)
+pub(crate) fn note_failures(log: &mut Log, failures: Seq<Failure>)
     requires { AreBelow (length log.old) failures }
     ensures log { log.new ≡ logged log.old failures }
     ensures nodes { length log.new ≡ length log.old }

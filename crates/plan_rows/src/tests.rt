@@ -1,11 +1,8 @@
 use crate::order::{first_rows, sort_rows};
-use crate::run_plan;
-use esql_plan::{Catalog, Plan, PlanKey, PlanSource};
+use esql_plan::PlanKey;
 use esql_types::{Cell, ColId, Seq, Value};
 use std::alloc::{AllocError, Global};
 use std::test::Fail;
-use text_match::Patterns;
-use warn_log::Log;
 
 fn cell(alloc: Global, numbers: &[i32]) -> Result<Cell, AllocError> {
     let mut cell = Cell::null(alloc);
@@ -68,29 +65,5 @@ fn rows_in_order(rt: HostRuntime) -> Result<(), Fail> {
         let given = shown(alloc, first.as_slice())?;
         assert!(rt; given.as_str() == wanted, "{given}");
     }
-    Ok(())
-}
-
-#[test]
-fn one_row_without_columns(rt: HostRuntime) -> Result<(), Fail> {
-    let alloc = rt.alloc();
-    let plan = Plan {
-        source: PlanSource::OneRow,
-        steps: Seq::new(alloc),
-        output: Seq::new(alloc),
-        columns: 0,
-        nodes: 0,
-    };
-    let catalog = Catalog {
-        tables: Seq::new(alloc),
-        policies: Seq::new(alloc),
-    };
-    let patterns = Patterns {
-        whole: Seq::new(alloc),
-        free: Seq::new(alloc),
-    };
-    let mut log = Log::open(alloc, 0)?;
-    let rows = run_plan(alloc, &plan, &catalog, &[], &patterns, &mut log)?;
-    assert!(rt; rows.len() == 1);
     Ok(())
 }

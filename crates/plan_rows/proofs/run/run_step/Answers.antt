@@ -22,20 +22,20 @@ pub returns-in-Expand-clause-log : goal.returns-in-Expand-clause-log
 returns-in-Expand-clause-log c =
     known c.expand_rows.result
     (ap (λ (failures : List Failure). logged c.args.log.now failures)
-    (sym (ap (λ (step : Step). kept_failures step c.args.rows) c.in-Expand.is ∙ no_failures (Expand c.in-Expand.id c.in-Expand.to) (λ row. refl) c.args.rows)))
+    (sym (ap (λ (step : Step). kept_failures step c.args.rows) c.in-Expand.is ∙ no_failures (λ row. []) (λ row. refl) c.args.rows)))
 
 pub returns-in-Sort-clause-log : goal.returns-in-Sort-clause-log
 returns-in-Sort-clause-log c =
     known c.sort_rows.result
     (ap (λ (failures : List Failure). logged c.args.log.now failures)
-    (sym (ap (λ (step : Step). kept_failures step c.args.rows) c.in-Sort.is ∙ no_failures (Sort c.in-Sort.keys) (λ row. refl) c.args.rows)))
+    (sym (ap (λ (step : Step). kept_failures step c.args.rows) c.in-Sort.is ∙ no_failures (λ row. []) (λ row. refl) c.args.rows)))
 
 pub returns-in_ok-sorted-in-TopN-clause-log : goal.returns-in_ok-sorted-in-TopN-clause-log
 returns-in_ok-sorted-in-TopN-clause-log c =
     ap (λ (failures : List Failure). logged c.args.log.now failures)
-    (sym (ap (λ (step : Step). kept_failures step c.args.rows) c.in-TopN.is ∙ no_failures (TopN c.in-TopN.keys c.in-TopN.count) (λ row. refl) c.args.rows))
+    (sym (ap (λ (step : Step). kept_failures step c.args.rows) c.in-TopN.is ∙ no_failures (λ row. []) (λ row. refl) c.args.rows))
 
 pub returns-in-Limit-clause-log : goal.returns-in-Limit-clause-log
 returns-in-Limit-clause-log c =
     ap (λ (failures : List Failure). logged c.args.log.now failures)
-    (sym (ap (λ (step : Step). kept_failures step c.args.rows) c.in-Limit.is ∙ no_failures (Limit c.in-Limit.count) (λ row. refl) c.args.rows))
+    (sym (ap (λ (step : Step). kept_failures step c.args.rows) c.in-Limit.is ∙ no_failures (λ row. []) (λ row. refl) c.args.rows))

@@ -1,0 +1,168 @@
+//! Rows into groups.
+ghost use Rattle.std.specs.Prelude.{◌≡◌, ◌≤◌, ◌<◌, [], All, length, map, replicate, Some, IfOk, OnOk};
+ghost use Rattle.esql_plan.specs.declared.step.Aggregate.{Aggregate as AggregateOf};
+ghost use Rattle.esql_plan.specs.declared.step.GroupColumn.{GroupColumn as GroupOf};
+ghost use Rattle.esql_scalar.specs.Rows.{row_of};
+ghost use Rattle.plan_semantics.specs.Stats.{entry_of, input_cell, stats_columns, stats_failures};
+ghost use Rattle.warn_log.specs.Logs.{logged};
+ghost use Rattle.plan_rows.specs.Kept.{rows_of, kept_columns, kept_stats};
+ghost use Rattle.plan_rows.specs.Runs.{GroupsFailBelow};
+
+use crate::source::{cell_of, nulls};
+use crate::steps::note_failures;
+use esql_plan::{Aggregate, GroupColumn};
+use esql_types::{Cell, ColId, Seq};
+use stats_groups::Groups;
+use std::alloc::{AllocError, Global};
+use warn_log::Log;
+
+/// A row for each group of rows, with its aggregates and its key in their columns and null in every other; what the aggregates
+/// fail with is noted.
+pub(crate) fn stats_rows(
+    alloc: Global,
+    aggregates: &[Aggregate],
+    groups: &[GroupColumn],
+    columns: u32,
+    rows: Seq<Seq<Cell>>,
+    log: &mut Log,
+) -> Result<Seq<Seq<Cell>>, AllocError>
+    requires few { length groups.now ≤ columns }
+    requires below { All (λ to. to.0 < columns) (stats_columns aggregates.now groups.now) }
+    requires fails { GroupsFailBelow (length log.old) aggregates.now groups.now }
+    ensures rows { IfOk result (λ new. new ≡ kept_stats columns aggregates.now groups.now rows) }
+    ensures log { OnOk result (log.new ≡ logged log.old (stats_failures aggregates.now groups.now (rows_of rows))) }
+    ensures nodes { OnOk result (length log.new ≡ length log.old) }
+{
+    let grouped = grouped(alloc, aggregates, groups, rows.as_slice())?;
+    let mut failures = Seq::new(alloc);
+    let cells = grouped.finish(&mut failures)?;
+    note_failures(log, failures);
+    let columns_made = columns_made(alloc, aggregates, groups)?;
+    placed_rows(alloc, columns_made.as_slice(), columns, cells)
+}
+
+/// The groups of rows.
+fn grouped(
+    alloc: Global,
+    aggregates: &[Aggregate],
+    groups: &[GroupColumn],
+    rows: &[Seq<Cell>],
+) -> Result<Groups, AllocError>
+    requires { length groups.now ≤ 4294967295 }
+    ensures { IfOk result (λ grouped. grouped ≡ record {
+      columns = length groups.now;
+      aggregates = aggregates.now;
+      entries = Some (map (λ row. entry_of aggregates.now groups.now (row_of row)) rows.now);
+    }) }
+{
+    let mut copies = Vec::new(alloc);
+    copies.extend_from_slice(aggregates)?;
+    let mut grouped = Groups::new(alloc, groups.len() as u32, Seq::from_vec(copies))?;
+    for row in rows {
+        let keys = key_cells(alloc, groups, row)?;
+        let inputs = input_cells(alloc, aggregates, row)?;
+        grouped.add_row(&keys, &inputs)?;
+    }
+    Ok(grouped)
+}
+
+/// The cells of the columns that a row is grouped by.
+fn key_cells(
+    alloc: Global,
+    groups: &[GroupColumn],
+    row: &Seq<Cell>,
+) -> Result<Seq<Cell>, AllocError>
+    ensures { IfOk result (λ cells. cells ≡ map (λ (group : GroupOf). row_of row.now group.id.0) groups.now) }
+{
+    let mut cells = Vec::with_capacity(alloc, groups.len())?;
+    for group in groups {
+        cells.push(cell_of(alloc, row, group.id.0 as usize)?)?;
+    }
+    Ok(Seq::from_vec(cells))
+}
+
+/// The cells of the inputs of aggregates, null for one that has none.
+fn input_cells(
+    alloc: Global,
+    aggregates: &[Aggregate],
+    row: &Seq<Cell>,
+) -> Result<Seq<Cell>, AllocError>
+    ensures { IfOk result (λ cells. cells ≡ map (λ (aggregate : AggregateOf). input_cell (row_of row.now) aggregate.input) aggregates.now) }
+{
+    let mut cells = Vec::with_capacity(alloc, aggregates.len())?;
+    for aggregate in aggregates {
+        cells.push(input_cell(alloc, aggregate.input, row)?)?;
+    }
+    Ok(Seq::from_vec(cells))
+}
+
+fn input_cell(alloc: Global, input: Option<ColId>, row: &Seq<Cell>) -> Result<Cell, AllocError>
+    ensures { IfOk result (λ cell. cell ≡ input_cell (row_of row.now) input) }
+{
+    match input {
+        Some(id) => cell_of(alloc, row, id.0 as usize),
+        None => Ok(Cell::null(alloc)),
+    }
+}
+
+/// The columns that are made, those of the aggregates before those of the groups.
+fn columns_made(
+    alloc: Global,
+    aggregates: &[Aggregate],
+    groups: &[GroupColumn],
+) -> Result<Seq<ColId>, AllocError>
+    ensures { IfOk result (λ made. made ≡ stats_columns aggregates.now groups.now) }
+{
+    let mut made = aggregate_columns(alloc, aggregates)?;
+    for group in groups {
+        made.push(group.to)?;
+    }
+    Ok(made)
+}
+
+fn aggregate_columns(alloc: Global, aggregates: &[Aggregate]) -> Result<Seq<ColId>, AllocError>
+    ensures { IfOk result (λ made. made ≡ map (λ (aggregate : AggregateOf). aggregate.to) aggregates.now) }
+{
+    let mut made = Seq::new(alloc);
+    for aggregate in aggregates {
+        made.push(aggregate.to)?;
+    }
+    Ok(made)
+}
+
+/// Rows of so many columns with these cells in those that are made.
+fn placed_rows(
+    alloc: Global,
+    made: &[ColId],
+    columns: u32,
+    rows: Seq<Seq<Cell>>,
+) -> Result<Seq<Seq<Cell>>, AllocError>
+    requires { All (λ to. to.0 < columns) made.now }
+    ensures { IfOk result (λ new. new ≡ map (kept_columns (replicate columns []) made.now) rows) }
+{
+    let mut new = Seq::new(alloc);
+    for cells in rows.into_vec() {
+        new.push(placed_row(alloc, made, columns, cells)?)?;
+    }
+    Ok(new)
+}
+
+fn placed_row(
+    alloc: Global,
+    made: &[ColId],
+    columns: u32,
+    cells: Seq<Cell>,
+) -> Result<Seq<Cell>, AllocError>
+    requires { All (λ to. to.0 < columns) made.now }
+    ensures { IfOk result (λ row. row ≡ kept_columns (replicate columns []) made.now cells) }
+{
+    let mut row = nulls(alloc, columns)?;
+    let mut place = 0;
+    for cell in cells.into_vec() {
+        if place < made.len() {
+            row.replace(made[place].0 as usize, cell);
+            place += 1;
+        }
+    }
+    Ok(row)
+}
