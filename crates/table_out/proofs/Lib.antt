@@ -1,2 +1,6 @@
+mod Arrays
+mod ByPlace
+mod Fields
 mod LineParts
-mod Sizes
+mod Pages
+mod Tables

@@ -1,7 +1,8 @@
 -- A line one text at a time.
-use Rattle.std.proofs.Common.{◌≡◌, ℕ, suc, ◌+◌, ◌-◌, ◌<◌, ◌≤◌, ◌==◌, Bool, cond, List, [], ◌∷◌, ◌++◌, length, drop, get_or, codes, ap, sym, ◌∙◌, arith, append-nil, append_assoc, length-drop}
+use Rattle.std.proofs.Common.{◌≡◌, ℕ, suc, ◌+◌, ◌-◌, ◌<◌, ◌≤◌, ◌==◌, Bool, cond, List, [], ◌∷◌, ◌++◌, length, map, drop, get_or, codes, ap, sym, ◌∙◌, arith, append-nil, append_assoc, length-drop}
 use Rattle.std.specs.List.{zip}
 use Rattle.std.proofs.Math.Dec.{eqb-suc-zero}
+use Rattle.std.proofs.lemmas.List.{get_or-map, length-map}
 use Rattle.std.proofs.Math.Seq.{drop-cons}
 use Rattle.std.proofs.Math.ListN.{drop_of_length-le}
 use Rattle.std.proofs.lemmas.Bool.Decides.{Decides-eqb}
@@ -48,3 +49,21 @@ module _ (widths : List ℕ) (texts : List (List ℕ)) (sized : length texts ≡
       ∙ append_assoc out _ _
       ∙ ap (λ line. out ++ line) (sym (ap line_of cut ∙ line_cons column rest))
       ∙ before
+
+-- the same of items that are printed
+module _ {X : Type 0} (print : X → List ℕ) (widths : List ℕ) (items : List X) (sized : length items ≡ length widths) where
+  as_many : length (map print items) ≡ length items
+  as_many = length-map items print
+
+  pub no_more_printed : (place : ℕ) → length items ≤ place → line_of (drop place (zip widths (map print items))) ≡ []
+  no_more_printed place past = no_more widths (map print items) (as_many ∙ sized) place (omega (arith, as_many))
+
+  pub one_more_printed : (place : ℕ) (item : X) (text out new all : List ℕ) → place < length items → item ≡ get_or items place item → text ≡ print item
+      → new ≡ out ++ cond (place + 1 == length items) text (padded (get_or widths place 0) text ++ codes " | ")
+      → out ++ line_of (drop place (zip widths (map print items))) ≡ all
+      → new ++ line_of (drop (place + 1) (zip widths (map print items))) ≡ all
+  one_more_printed place item text out new all within is_item is_text written before =
+      one_more widths (map print items) (as_many ∙ sized) place text out new all (omega (arith, as_many))
+      (is_text ∙ ap print is_item ∙ sym (get_or-map print items place item text within))
+      (written ∙ ap (λ count. out ++ cond (place + 1 == count) text (padded (get_or widths place 0) text ++ codes " | ")) (sym as_many))
+      before

@@ -1,25 +1,37 @@
-ghost use Rattle.std.specs.Prelude.{◌≡◌, ◌<◌, ◌++◌, OnOk, length, replicate, zip, codes, if◌then◌else◌};
+ghost use Rattle.std.specs.Prelude.{◌≡◌, ◌<◌, ◌++◌, OnOk, length, map, replicate, zip, codes, if◌then◌else◌};
 ghost use Rattle.std.specs.String.{string_bytes};
-ghost use Rattle.answer_text.specs.Txt.{line_of, padded, dashes};
+ghost use Rattle.answer_text.specs.Txt.{line_of, padded, printed, dashes};
 
+use crate::printed::{Print, Scratch};
 use answer_text::width;
-use esql_types::Text;
 use std::alloc::AllocError;
 
-pub fn push_line(out: &mut String, widths: &[usize], texts: &[Text]) -> Result<(), AllocError>
-    requires { length texts.now ≡ length widths.now }
-    ensures { OnOk result (string_bytes out.new ≡ string_bytes out.old ++ (line_of (zip widths.now texts.now) ++ codes "\n")) }
+/// Writes the items as a line, each in its column.
+pub fn push_line<T: Print>(
+    out: &mut String,
+    widths: &[usize],
+    items: &[T],
+    scratch: &mut Scratch,
+) -> Result<(), AllocError>
+    requires { length items.now ≡ length widths.now }
+    ensures { OnOk result (string_bytes out.new ≡ string_bytes out.old ++ (line_of (zip widths.now (map (λ item. printed (T.text item)) items.now)) ++ codes "\n")) }
 {
-    push_texts(out, widths, texts)?;
+    push_items(out, widths, items, scratch)?;
     out.push_str("\n")
 }
 
-fn push_texts(out: &mut String, widths: &[usize], texts: &[Text]) -> Result<(), AllocError>
-    requires { length texts.now ≡ length widths.now }
-    ensures { OnOk result (string_bytes out.new ≡ string_bytes out.old ++ line_of (zip widths.now texts.now)) }
+fn push_items<T: Print>(
+    out: &mut String,
+    widths: &[usize],
+    items: &[T],
+    scratch: &mut Scratch,
+) -> Result<(), AllocError>
+    requires { length items.now ≡ length widths.now }
+    ensures { OnOk result (string_bytes out.new ≡ string_bytes out.old ++ line_of (zip widths.now (map (λ item. printed (T.text item)) items.now))) }
 {
-    for (place, text) in texts.iter().enumerate() {
-        push_text(out, widths[place], text.as_str(), place + 1 == texts.len())?;
+    for (place, item) in items.iter().enumerate() {
+        let text = scratch.print(item)?;
+        push_text(out, widths[place], text, place + 1 == items.len())?;
     }
     Ok(())
 }

@@ -1,53 +1,61 @@
-ghost use Rattle.std.specs.Prelude.{◌≡◌, IfOk, map};
+ghost use Rattle.std.specs.Prelude.{◌≡◌, ◌++◌, ℕ, List, IfOk, OnOk};
+ghost use Rattle.std.specs.String.{string_bytes};
 ghost use Rattle.answer_text.specs.Cells.{cell_text};
-ghost use Rattle.answer_text.specs.Txt.{heads_of, texts_of, printed};
+ghost use Rattle.answer_text.specs.Txt.{printed};
 
 use answer_text::{push_cell, push_printed};
-use esql_types::{Cell, Column, Seq, Text};
+use esql_types::{Cell, Column};
 use std::alloc::{AllocError, Global};
 
-pub fn printed_names(alloc: Global, columns: &Seq<Column>) -> Result<Seq<Text>, AllocError>
-    ensures { IfOk result (λ heads. heads ≡ heads_of columns.now) }
-{
-    let mut heads = Seq::new(alloc);
-    for column in columns.as_slice() {
-        heads.push(printed_text(alloc, column.name.as_str())?)?;
+/// What has a place in a line of the layout `txt`.
+pub trait Print {
+    /// Its text, in which no character is replaced yet.
+    ghost text: { Self → List ℕ };
+
+    /// Writes that text.
+    fn push_text(&self, out: &mut String) -> Result<(), AllocError>
+        ensures { OnOk result (string_bytes out.new ≡ string_bytes out.old ++ text self.now) };
+}
+
+impl Print for Column {
+    ghost text = { λ column. column.name };
+
+    fn push_text(&self, out: &mut String) -> Result<(), AllocError> {
+        out.push_str(self.name.as_str())
     }
-    Ok(heads)
 }
 
-pub fn printed_rows(alloc: Global, rows: &Seq<Seq<Cell>>) -> Result<Seq<Seq<Text>>, AllocError>
-    ensures { IfOk result (λ lines. lines ≡ map texts_of rows.now) }
-{
-    let mut lines = Seq::new(alloc);
-    for row in rows.as_slice() {
-        lines.push(printed_cells(alloc, row)?)?;
+impl Print for Cell {
+    ghost text = { cell_text };
+
+    fn push_text(&self, out: &mut String) -> Result<(), AllocError> {
+        push_cell(out, self)
     }
-    Ok(lines)
 }
 
-fn printed_cells(alloc: Global, row: &Seq<Cell>) -> Result<Seq<Text>, AllocError>
-    ensures { IfOk result (λ texts. texts ≡ texts_of row.now) }
-{
-    let mut texts = Seq::new(alloc);
-    for cell in row.as_slice() {
-        texts.push(printed_cell(alloc, cell)?)?;
+/// Memory in which one text after another is printed.
+#[derive(Drop)]
+pub struct Scratch {
+    text: String,
+    printed: String,
+}
+
+impl Scratch {
+    pub fn new(alloc: Global) -> Scratch {
+        Scratch {
+            text: String::new(alloc),
+            printed: String::new(alloc),
+        }
     }
-    Ok(texts)
-}
 
-fn printed_cell(alloc: Global, cell: &Cell) -> Result<Text, AllocError>
-    ensures { IfOk result (λ text. text ≡ printed (cell_text cell.now)) }
-{
-    let mut text = String::new(alloc);
-    push_cell(&mut text, cell)?;
-    printed_text(alloc, text.as_str())
-}
-
-fn printed_text(alloc: Global, text: &str) -> Result<Text, AllocError>
-    ensures { IfOk result (λ t. t ≡ printed text.now) }
-{
-    let mut out = String::new(alloc);
-    push_printed(&mut out, text)?;
-    Ok(Text::from_string(out))
+    /// An item as it is printed, which stands until the next is.
+    pub fn print<T: Print>(&mut self, item: &T) -> Result<&str, AllocError>
+        ensures { IfOk result (λ text. text.now ≡ printed (T.text item.now)) }
+    {
+        self.text.clear();
+        item.push_text(&mut self.text)?;
+        self.printed.clear();
+        push_printed(&mut self.printed, self.text.as_str())?;
+        Ok(self.printed.as_str())
+    }
 }

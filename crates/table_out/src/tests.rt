@@ -87,3 +87,66 @@ fn widths_are_in_characters(rt: HostRuntime) -> Result<(), Fail> {
     assert_eq!(rt; text.as_str(), "\n\n\n");
     Ok(())
 }
+
+fn sample_columns(alloc: Global) -> Result<Seq<Column>, AllocError>
+    ensures { IfOk result (λ columns. length columns ≡ 3) }
+{
+    let mut columns = Seq::new(alloc);
+    let name = Text::from_str(alloc, "a \"b\"")?;
+    columns.push(Column {
+        name,
+        kind: Kind::Keyword,
+    })?;
+    let name = Text::from_str(alloc, "n")?;
+    columns.push(Column {
+        name,
+        kind: Kind::Integer,
+    })?;
+    let name = Text::from_str(alloc, "z")?;
+    columns.push(Column {
+        name,
+        kind: Kind::Null,
+    })?;
+    Ok(columns)
+}
+
+fn sample_row(alloc: Global, keyword: &str, numbers: &[i32]) -> Result<Seq<Cell>, AllocError>
+    ensures { IfOk result (λ row. length row ≡ 3) }
+{
+    let mut row = Seq::new(alloc);
+    let text = Text::from_str(alloc, keyword)?;
+    row.push(Cell::one(alloc, Value::Text(text)))?;
+    row.push(cell_of(alloc, numbers)?)?;
+    row.push(Cell::null(alloc))?;
+    Ok(row)
+}
+
+fn sample_rows(alloc: Global, columns: usize) -> Result<Seq<Seq<Cell>>, AllocError>
+    requires { columns ≡ 3 }
+    ensures { IfOk result (λ rows. All (λ row. length row ≡ columns) rows) }
+{
+    let mut rows = Seq::new(alloc);
+    rows.push(sample_row(alloc, "x,\"y\"\n", &[1, -2])?)?;
+    rows.push(sample_row(alloc, "é", &[3])?)?;
+    Ok(rows)
+}
+
+#[test]
+fn three_formats(rt: HostRuntime) -> Result<(), Fail> {
+    let alloc = rt.alloc();
+    let columns = sample_columns(alloc)?;
+    let rows = sample_rows(alloc, columns.len())?;
+    assert_eq!(rt;
+        txt(alloc, &columns, &rows)?.as_str(),
+        "a \"b\"   | n       | z\n--------+---------+-----\nx,\"y\"\\n | [1, -2] | null\né       | 3       | null\n"
+    );
+    assert_eq!(rt;
+        csv(alloc, &columns, &rows)?.as_str(),
+        "\"a \"\"b\"\"\",n,z\n\"x,\"\"y\"\"\n\",\"[1, -2]\",\né,3,\n"
+    );
+    assert_eq!(rt;
+        json(alloc, &columns, &rows)?.as_str(),
+        "{\"columns\":[{\"name\":\"a \\\"b\\\"\",\"type\":\"keyword\"},{\"name\":\"n\",\"type\":\"integer\"},{\"name\":\"z\",\"type\":\"null\"}],\"values\":[[\"x,\\\"y\\\"\\n\",[1,-2],null],[\"é\",3,null]]}\n"
+    );
+    Ok(())
+}
