@@ -5,14 +5,16 @@
 
 mod answered;
 mod answering;
+mod catalogs;
 mod prepared;
 mod query;
 
 pub use answered::Answer;
 pub use answering::answer;
+pub use catalogs::copy_catalog;
 pub use esql_analyze::AnalyzeError;
 pub use prepared::{Prepared, prepare};
 pub use query::{QueryError, read_query};
 pub use row_semantics::NameRule;
-pub use table_files::{Stop, TableSource, catalog_of, gather, load};
+pub use table_files::{Gathered, Loaded, Stop, TableSource, gather, load};
 pub use warn_log::Log;

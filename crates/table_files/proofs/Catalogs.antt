@@ -15,7 +15,7 @@ use Rattle.esql_types.specs.declared.names.Column.{Column}
 use Rattle.esql_plan.specs.declared.catalog.TableShape.{TableShape}
 use Rattle.ndjson_load.specs.Shapes.{NamesRise}
 use Rattle.ndjson_load.specs.declared.column.MappedColumn.{MappedColumn}
-use Rattle.table_files.specs.declared.stop.TableSource.{TableSource}
+use Rattle.table_files.specs.declared.tables.FoundTable.{FoundTable}
 use Rattle.table_files.specs.Catalogs.{columns_of, shape_of, catalog_of}
 use Rattle.table_files.specs.Shapes.{AreApart, entries_of}
 
@@ -54,33 +54,33 @@ abbrev ColumnsAreApart : TableShape → Type 0
 ColumnsAreApart shape = AreApart (map (λ (column : Column). column.name) shape.columns)
 
 -- where the names of each table's columns rise, those of each table of the catalog differ
-pub catalog_columns : (sources : List TableSource) → All (λ (source : TableSource). NamesRise source.columns) sources
-    → All (λ (shape : TableShape). IsDistinct bytes_eq (map (λ (column : Column). column.name) shape.columns)) (catalog_of sources).tables
-catalog_columns sources rise =
-    All-map ColumnsAreApart shape_of sources
-    (All-weaker (λ (source : TableSource). NamesRise source.columns) (λ (source : TableSource). ColumnsAreApart (shape_of source)) (λ source rises. columns_apart source.columns rises) sources rise)
+pub catalog_columns : (founds : List FoundTable) → All (λ (found : FoundTable). NamesRise found.columns) founds
+    → All (λ (shape : TableShape). IsDistinct bytes_eq (map (λ (column : Column). column.name) shape.columns)) (catalog_of founds).tables
+catalog_columns founds rise =
+    All-map ColumnsAreApart shape_of founds
+    (All-weaker (λ (found : FoundTable). NamesRise found.columns) (λ (found : FoundTable). ColumnsAreApart (shape_of found)) (λ found rises. columns_apart found.columns rises) founds rise)
 
 -- ---- the tables
 
-names_of_tables : (sources : List TableSource) → map (λ (source : TableSource). source.name) sources ≡ map (λ (shape : TableShape). shape.name) (catalog_of sources).tables
+names_of_tables : (founds : List FoundTable) → map (λ (found : FoundTable). found.name) founds ≡ map (λ (shape : TableShape). shape.name) (catalog_of founds).tables
 names_of_tables [] = refl
-names_of_tables (source ∷ sources) = ap (λ names. source.name ∷ names) (names_of_tables sources)
+names_of_tables (found ∷ founds) = ap (λ names. found.name ∷ names) (names_of_tables founds)
 
 -- where the names of the tables differ, so do those of the catalog
-pub catalog_names : (sources : List TableSource) → AreApart (map (λ (source : TableSource). source.name) sources) → IsDistinct bytes_eq (map (λ (shape : TableShape). shape.name) (catalog_of sources).tables)
-catalog_names sources apart = subst AreApart (names_of_tables sources) apart
+pub catalog_names : (founds : List FoundTable) → AreApart (map (λ (found : FoundTable). found.name) founds) → IsDistinct bytes_eq (map (λ (shape : TableShape). shape.name) (catalog_of founds).tables)
+catalog_names founds apart = subst AreApart (names_of_tables founds) apart
 
 abbrev entries_in : TableShape → ℕ
 entries_in shape = 1 + length shape.columns
 
 -- the entries of the catalog are those of the tables
-pub catalog_entries : (sources : List TableSource) → sum_by (λ (shape : TableShape). 1 + length shape.columns) (catalog_of sources).tables ≡ entries_of sources
+pub catalog_entries : (founds : List FoundTable) → sum_by (λ (shape : TableShape). 1 + length shape.columns) (catalog_of founds).tables ≡ entries_of founds
 catalog_entries [] = refl
-catalog_entries (source ∷ sources) =
-    let rest : sum_by entries_in (map shape_of sources) ≡ entries_of sources = catalog_entries sources in
-    let all : length (columns_of source.columns) ≡ length source.columns = length-map source.columns (λ (mapped : MappedColumn). mapped.column) in
-    sum_by-cons entries_in (shape_of source) (map shape_of sources) ∙ omega (arith, rest, all)
+catalog_entries (found ∷ founds) =
+    let rest : sum_by entries_in (map shape_of founds) ≡ entries_of founds = catalog_entries founds in
+    let all : length (columns_of found.columns) ≡ length found.columns = length-map found.columns (λ (mapped : MappedColumn). mapped.column) in
+    sum_by-cons entries_in (shape_of found) (map shape_of founds) ∙ omega (arith, rest, all)
 
 -- so they are as few
-pub catalog_few : (sources : List TableSource) (most : ℕ) → entries_of sources ≤ most → sum_by (λ (shape : TableShape). 1 + length shape.columns) (catalog_of sources).tables ≤ most
-catalog_few sources most few = subst (λ (n : ℕ). n ≤ most) (sym (catalog_entries sources)) few
+pub catalog_few : (founds : List FoundTable) (most : ℕ) → entries_of founds ≤ most → sum_by (λ (shape : TableShape). 1 + length shape.columns) (catalog_of founds).tables ≤ most
+catalog_few founds most few = subst (λ (n : ℕ). n ≤ most) (sym (catalog_entries founds)) few

@@ -1,6 +1,8 @@
 mod Asked
 pub mod Catalogs
-mod Gathered
+mod FoundAgain
+pub mod Founds
+mod InTurn
 mod Named
 mod OneCatalog
 pub mod OneName

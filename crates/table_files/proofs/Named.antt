@@ -1,5 +1,5 @@
 -- What a name stands for, from what was answered of its two files.
-use Rattle.std.proofs.Common.{◌≡◌, inl, inr, ℕ, ◌+◌, ◌≤◌, ◌<◌, List, [], ◌∷◌, length, replicate, codes, cond, Bool, true, false, Result, Ok, Err, Option, Some, None, refl, ap, sym, subst, ◌∙◌, arith, length-append}
+use Rattle.std.proofs.Common.{◌≡◌, inl, inr, ℕ, ◌+◌, ◌≤◌, ◌<◌, List, [], ◌∷◌, ◌++◌, length, replicate, codes, cond, Bool, true, false, Result, Ok, Err, Option, Some, None, refl, ap, sym, subst, ◌∙◌, arith, length-append}
 use Rattle.std.specs.Prelude.{is_some}
 use Rattle.std.specs.Option.{IfSome, IsSomeAnd}
 use Rattle.std.proofs.Math.Dec.{ltb}
@@ -13,13 +13,13 @@ use Rattle.ndjson_load.specs.Mappings.{IsMapping}
 use Rattle.ndjson_load.specs.Over.{BytesOf, Over}
 use Rattle.ndjson_load.specs.declared.column.MappedColumn.{MappedColumn}
 use Rattle.table_files.specs.declared.stop.Stop.{Stop}
-use Rattle.table_files.specs.declared.stop.Stop.TheVariants.{UnknownTable, BadData, ReadFault, Memory}
+use Rattle.table_files.specs.declared.stop.Stop.TheVariants.{Refused, BadData, ReadFault, Memory}
 use Rattle.table_files.specs.Asked.{AskedToFind, the_mapping, the_rows}
-use Rattle.table_files.specs.Catalog.{Halt, unknown, bad, Holds, IsTooLarge, NamesTable, no_mapping, wide_mapping, no_rows, bad_mapping, crowded, table, StandsFor, mapping_file, row_file}
+use Rattle.table_files.specs.Catalog.{Halt, unknown, bad, Holds, IsTooLarge, NamesTable, no_mapping, wide_mapping, no_rows, bad_mapping, crowded, table, StandsFor, folder_text, mapping_file, row_file}
 use Rattle.table_files.specs.Messages.{too_large}
 use Rattle.table_files.specs.Reading.{ReadsFile, ReadsOver, FindsFile, FindsOver, ReadsColumns}
 use Rattle.table_files.specs.Stops.{Says, CalledToStop, IsNoReadFault}
-use Rattle.table_files.proofs.Gathered.{says_err}
+use Rattle.table_files.proofs.InTurn.{says_err}
 
 -- ---- over some contents
 
@@ -77,104 +77,114 @@ read_wide held file message span is wide = over_weaker held (λ h. IsTooLarge h 
 -- ---- a name
 
 -- the contents of the two files of a name alone, the longer of whose names is that of the mapping
-abbrev pub two_files : List ℕ → Option (List ℕ) → Option (List ℕ) → BytesOf
-two_files name mapped read = λ file. cond (ltb (length (row_file name)) (length file)) mapped read
+abbrev pub two_files : Option (List ℕ) → List ℕ → Option (List ℕ) → Option (List ℕ) → BytesOf
+two_files folder name mapped read = λ file. cond (ltb (length (row_file folder name)) (length file)) mapped read
 
-pub two_rows : (name : List ℕ) (mapped read : Option (List ℕ)) → two_files name mapped read (row_file name) ≡ read
-two_rows name mapped read = ap (λ (b : Bool). cond b mapped read) (le-ltb (length (row_file name)) (length (row_file name)) (omega arith))
+pub two_rows : (folder : Option (List ℕ)) (name : List ℕ) (mapped read : Option (List ℕ)) → two_files folder name mapped read (row_file folder name) ≡ read
+two_rows folder name mapped read = ap (λ (b : Bool). cond b mapped read) (le-ltb (length (row_file folder name)) (length (row_file folder name)) (omega arith))
 
-pub two_mapping : (name : List ℕ) (mapped read : Option (List ℕ)) → two_files name mapped read (mapping_file name) ≡ mapped
-two_mapping name mapped read =
-    let long : length (mapping_file name) ≡ length name + 13 = length-append name (codes ".mapping.json") in
-    let short : length (row_file name) ≡ length name + 7 = length-append name (codes ".ndjson") in
-    ap (λ (b : Bool). cond b mapped read) (lt-ltb (length (row_file name)) (length (mapping_file name)) (omega arith))
+pub two_mapping : (folder : Option (List ℕ)) (name : List ℕ) (mapped read : Option (List ℕ)) → two_files folder name mapped read (mapping_file folder name) ≡ mapped
+two_mapping folder name mapped read =
+    let before : ℕ = length (folder_text folder) in
+    let long : length (mapping_file folder name) ≡ before + (length name + 13) =
+    length-append (folder_text folder) (name ++ codes ".mapping.json") ∙ ap (λ n. before + n) (length-append name (codes ".mapping.json")) in
+    let short : length (row_file folder name) ≡ before + (length name + 7) =
+    length-append (folder_text folder) (name ++ codes ".ndjson") ∙ ap (λ n. before + n) (length-append name (codes ".ndjson")) in
+    ap (λ (b : Bool). cond b mapped read) (lt-ltb (length (row_file folder name)) (length (mapping_file folder name)) (omega arith))
 
-abbrev Both : {A : Type 0} → NameAt → List ℕ → Result A Halt → BytesOf → Type 0
-Both name bytes found h = Holds h (mapping_file name.name) bytes × FindsFile h (row_file name.name) name.span found
+abbrev Both : {A : Type 0} → Option (List ℕ) → NameAt → List ℕ → Result A Halt → BytesOf → Type 0
+Both folder name bytes found h = Holds h (mapping_file folder name.name) bytes × FindsFile h (row_file folder name.name) name.span found
 
-both_some : (A : Type 0) (name : NameAt) (bytes : List ℕ) (found : Result A Halt) (h : BytesOf) → length bytes ≤ 268435456 → FindsFile h (row_file name.name) name.span found
-    → (held : BytesOf) × Both name bytes found held
-both_some A name bytes (Ok a) h fits (read, is) =
-    (two_files name.name (Some bytes) (Some read), (record { is = two_mapping name.name (Some bytes) (Some read); fits = fits }, (read, two_rows name.name (Some bytes) (Some read))))
-both_some A name bytes (Err (unknown place)) h fits (none, at) =
-    (two_files name.name (Some bytes) None, (record { is = two_mapping name.name (Some bytes) None; fits = fits }, (two_rows name.name (Some bytes) None, at)))
-both_some A name bytes (Err (bad message)) h fits finds = absurd finds
+both_some : (folder : Option (List ℕ)) (A : Type 0) (name : NameAt) (bytes : List ℕ) (found : Result A Halt) (h : BytesOf) → length bytes ≤ 268435456 → FindsFile h (row_file folder name.name) name.span found
+    → (held : BytesOf) × Both folder name bytes found held
+both_some folder A name bytes (Ok a) h fits (read, is) =
+    (two_files folder name.name (Some bytes) (Some read), (record { is = two_mapping folder name.name (Some bytes) (Some read); fits = fits }, (read, two_rows folder name.name (Some bytes) (Some read))))
+both_some folder A name bytes (Err (unknown place)) h fits (none, at) =
+    (two_files folder name.name (Some bytes) None, (record { is = two_mapping folder name.name (Some bytes) None; fits = fits }, (two_rows folder name.name (Some bytes) None, at)))
+both_some folder A name bytes (Err (bad message)) h fits finds = absurd finds
 
 -- the mapping was read, and then the row file was looked for
-over_both : (A : Type 0) (held now : Held) (name : NameAt) (file bytes : List ℕ) (found : Result A Halt) → now ≡ held → file ≡ mapping_file name.name
-    → ReadsOver held file name.span (Ok bytes) → FindsOver now (row_file name.name) name.span found → Over held (Both name bytes found)
-over_both A None now name file bytes found same is reads finds =
-    let over = subst (λ h. FindsOver h (row_file name.name) name.span found) same finds in
-    both_some A name bytes found over.0 reads.1.fits over.1
-over_both A (Some h) now name file bytes found same is reads finds =
-    (subst (λ f. Holds h f bytes) is reads, subst (λ o. FindsOver o (row_file name.name) name.span found) same finds)
+over_both : (folder : Option (List ℕ)) (A : Type 0) (held now : Held) (name : NameAt) (file bytes : List ℕ) (found : Result A Halt) → now ≡ held → file ≡ mapping_file folder name.name
+    → ReadsOver held file name.span (Ok bytes) → FindsOver now (row_file folder name.name) name.span found → Over held (Both folder name bytes found)
+over_both folder A None now name file bytes found same is reads finds =
+    let over = subst (λ h. FindsOver h (row_file folder name.name) name.span found) same finds in
+    both_some folder A name bytes found over.0 reads.1.fits over.1
+over_both folder A (Some h) now name file bytes found same is reads finds =
+    (subst (λ f. Holds h f bytes) is reads, subst (λ o. FindsOver o (row_file folder name.name) name.span found) same finds)
 
-unread : (h : BytesOf) (entries : ℕ) (name : NameAt) (halt : Halt) → ReadsFile h (mapping_file name.name) name.span (Err halt) → NamesTable h entries name (Err halt)
-unread h entries name (unknown place) reads = subst (λ s. NamesTable h entries name (Err (unknown s))) (sym reads.1) (no_mapping reads.0)
-unread h entries name (bad message) reads = subst (λ m. NamesTable h entries name (Err (bad m))) (sym reads.1) (wide_mapping reads.0)
+unread : (folder : Option (List ℕ)) (h : BytesOf) (entries : ℕ) (name : NameAt) (halt : Halt) → ReadsFile h (mapping_file folder name.name) name.span (Err halt) → NamesTable folder h entries name (Err halt)
+unread folder h entries name (unknown place) reads = subst (λ s. NamesTable folder h entries name (Err (unknown s))) (sym reads.1) (no_mapping reads.0)
+unread folder h entries name (bad message) reads = subst (λ m. NamesTable folder h entries name (Err (bad m))) (sym reads.1) (wide_mapping reads.0)
 
-pub name_unread : (held : Held) (entries : ℕ) (name : NameAt) (file : List ℕ) (stop : Stop) → file ≡ mapping_file name.name
-    → Says (ReadsOver held file name.span) (Err stop) → Says (StandsFor held entries name) (Err stop)
-name_unread held entries name file stop is reads =
-    says_err (ReadsOver held (mapping_file name.name) name.span) (StandsFor held entries name) stop
-    (λ halt. over_weaker held (λ h. ReadsFile h (mapping_file name.name) name.span (Err halt)) (λ h. NamesTable h entries name (Err halt)) (λ h. unread h entries name halt))
-    (subst (λ f. Says (ReadsOver held f name.span) (Err stop)) is reads)
+pub name_unread : (text : List ℕ) (folder : Option (List ℕ)) (held : Held) (entries : ℕ) (name : NameAt) (file : List ℕ) (stop : Stop) → file ≡ mapping_file folder name.name
+    → Says text (ReadsOver held file name.span) (Err stop) → Says text (StandsFor folder held entries name) (Err stop)
+name_unread text folder held entries name file stop is reads =
+    says_err text (ReadsOver held (mapping_file folder name.name) name.span) (StandsFor folder held entries name) stop
+    (λ halt. over_weaker held (λ h. ReadsFile h (mapping_file folder name.name) name.span (Err halt)) (λ h. NamesTable folder h entries name (Err halt)) (λ h. unread folder h entries name halt))
+    (subst (λ f. Says text (ReadsOver held f name.span) (Err stop)) is reads)
 
-rowless : (A : Type 0) (h : BytesOf) (entries : ℕ) (name : NameAt) (bytes : List ℕ) → Holds h (mapping_file name.name) bytes
-    → (halt : Halt) → FindsFile {A = A} h (row_file name.name) name.span (Err halt) → NamesTable h entries name (Err halt)
-rowless A h entries name bytes holds (unknown place) finds = subst (λ s. NamesTable h entries name (Err (unknown s))) (sym finds.1) (no_rows bytes holds finds.0)
-rowless A h entries name bytes holds (bad message) finds = absurd finds
+rowless : (folder : Option (List ℕ)) (A : Type 0) (h : BytesOf) (entries : ℕ) (name : NameAt) (bytes : List ℕ) → Holds h (mapping_file folder name.name) bytes
+    → (halt : Halt) → FindsFile {A = A} h (row_file folder name.name) name.span (Err halt) → NamesTable folder h entries name (Err halt)
+rowless folder A h entries name bytes holds (unknown place) finds = subst (λ s. NamesTable folder h entries name (Err (unknown s))) (sym finds.1) (no_rows bytes holds finds.0)
+rowless folder A h entries name bytes holds (bad message) finds = absurd finds
 
-pub name_rowless : (A : Type 0) (held now : Held) (entries : ℕ) (name : NameAt) (file bytes : List ℕ) (stop : Stop) → now ≡ held → file ≡ mapping_file name.name
-    → ReadsOver held file name.span (Ok bytes) → Says (FindsOver {A = A} now (row_file name.name) name.span) (Err stop) → Says (StandsFor held entries name) (Err stop)
-name_rowless A held now entries name file bytes stop same is reads finds =
-    says_err (FindsOver {A = A} now (row_file name.name) name.span) (StandsFor held entries name) stop
-    (λ halt found. over_weaker held (Both {A = A} name bytes (Err halt)) (λ h. NamesTable h entries name (Err halt)) (λ h both. rowless A h entries name bytes both.0 halt both.1)
-    (over_both A held now name file bytes (Err halt) same is reads found))
+pub name_rowless : (text : List ℕ) (folder : Option (List ℕ)) (A : Type 0) (held now : Held) (entries : ℕ) (name : NameAt) (file bytes : List ℕ) (stop : Stop) → now ≡ held → file ≡ mapping_file folder name.name
+    → ReadsOver held file name.span (Ok bytes) → Says text (FindsOver {A = A} now (row_file folder name.name) name.span) (Err stop) → Says text (StandsFor folder held entries name) (Err stop)
+name_rowless text folder A held now entries name file bytes stop same is reads finds =
+    says_err text (FindsOver {A = A} now (row_file folder name.name) name.span) (StandsFor folder held entries name) stop
+    (λ halt found. over_weaker held (Both {A = A} folder name bytes (Err halt)) (λ h. NamesTable folder h entries name (Err halt)) (λ h both. rowless folder A h entries name bytes both.0 halt both.1)
+    (over_both folder A held now name file bytes (Err halt) same is reads found))
     finds
 
-badly_mapped : (h : BytesOf) (entries : ℕ) (name : NameAt) (bytes rows : List ℕ) → Holds h (mapping_file name.name) bytes → h (row_file name.name) ≡ Some rows
-    → (halt : Halt) → ReadsColumns bytes (mapping_file name.name) entries (Err halt) → NamesTable h entries name (Err halt)
-badly_mapped h entries name bytes rows holds found (unknown place) maps = absurd maps
-badly_mapped h entries name bytes rows holds found (bad message) (inl maps) =
-    subst (λ m. NamesTable h entries name (Err (bad m))) (sym maps.2) (bad_mapping bytes rows maps.0 holds found maps.1)
-badly_mapped h entries name bytes rows holds found (bad message) (inr maps) =
-    subst (λ m. NamesTable h entries name (Err (bad m))) (sym maps.3) (crowded bytes rows maps.0 holds found maps.1 maps.2)
+badly_mapped : (folder : Option (List ℕ)) (h : BytesOf) (entries : ℕ) (name : NameAt) (bytes rows : List ℕ) → Holds h (mapping_file folder name.name) bytes → h (row_file folder name.name) ≡ Some rows
+    → (halt : Halt) → ReadsColumns bytes (mapping_file folder name.name) entries (Err halt) → NamesTable folder h entries name (Err halt)
+badly_mapped folder h entries name bytes rows holds found (unknown place) maps = absurd maps
+badly_mapped folder h entries name bytes rows holds found (bad message) (inl maps) =
+    subst (λ m. NamesTable folder h entries name (Err (bad m))) (sym maps.2) (bad_mapping bytes rows maps.0 holds found maps.1)
+badly_mapped folder h entries name bytes rows holds found (bad message) (inr maps) =
+    subst (λ m. NamesTable folder h entries name (Err (bad m))) (sym maps.3) (crowded bytes rows maps.0 holds found maps.1 maps.2)
 
-pub name_bad : (A : Type 0) (held now : Held) (entries : ℕ) (name : NameAt) (file bytes named read : List ℕ) (a : A) (stop : Stop) → now ≡ held
-    → file ≡ mapping_file name.name → named ≡ mapping_file name.name → read ≡ bytes
-    → ReadsOver held file name.span (Ok bytes) → FindsOver {A = A} now (row_file name.name) name.span (Ok a)
-    → Says (ReadsColumns read named entries) (Err stop) → Says (StandsFor held entries name) (Err stop)
-name_bad A held now entries name file bytes named read a stop same is again whole reads finds maps =
-    says_err (ReadsColumns bytes (mapping_file name.name) entries) (StandsFor held entries name) stop
-    (λ halt at. over_weaker held (Both {A = A} name bytes (Ok a)) (λ h. NamesTable h entries name (Err halt)) (λ h both. badly_mapped h entries name bytes both.1.0 both.0 both.1.1 halt at)
-    (over_both A held now name file bytes (Ok a) same is reads finds))
-    (subst (λ b. Says (ReadsColumns b (mapping_file name.name) entries) (Err stop)) whole (subst (λ f. Says (ReadsColumns read f entries) (Err stop)) again maps))
+-- of a mapping alone no name is refused, so what is said of it is said for every text
+pub any_text : (text bytes file : List ℕ) (entries : ℕ) (stop : Stop) → Says [] (ReadsColumns bytes file entries) (Err stop) → Says text (ReadsColumns bytes file entries) (Err stop)
+any_text text bytes file entries (Refused line) says = absurd says.halts
+any_text text bytes file entries (BadData line) says = says
+any_text text bytes file entries (ReadFault named) says = tt
+any_text text bytes file entries (Memory error) says = tt
 
-pub name_table : (A : Type 0) (held now : Held) (entries : ℕ) (name : NameAt) (file bytes named read copied : List ℕ) (a : A) (columns : List MappedColumn) → now ≡ held
-    → file ≡ mapping_file name.name → named ≡ mapping_file name.name → read ≡ bytes → copied ≡ name.name
-    → ReadsOver held file name.span (Ok bytes) → FindsOver {A = A} now (row_file name.name) name.span (Ok a)
-    → Says (ReadsColumns read named entries) (Ok columns)
-    → StandsFor held entries name (Ok (record { name = copied; span = name.span; columns = columns }))
-name_table A held now entries name file bytes named read copied a columns same is again whole copy reads finds maps =
-    subst (λ (n : List ℕ). StandsFor held entries name (Ok (record { name = n; span = name.span; columns = columns }))) (sym copy)
-    (over_weaker held (Both {A = A} name bytes (Ok a)) (λ h. NamesTable h entries name (Ok (record { name = name.name; span = name.span; columns = columns })))
+pub name_bad : (text : List ℕ) (folder : Option (List ℕ)) (A : Type 0) (held now : Held) (entries : ℕ) (name : NameAt) (file bytes named read : List ℕ) (a : A) (stop : Stop) → now ≡ held
+    → file ≡ mapping_file folder name.name → named ≡ mapping_file folder name.name → read ≡ bytes
+    → ReadsOver held file name.span (Ok bytes) → FindsOver {A = A} now (row_file folder name.name) name.span (Ok a)
+    → Says text (ReadsColumns read named entries) (Err stop) → Says text (StandsFor folder held entries name) (Err stop)
+name_bad text folder A held now entries name file bytes named read a stop same is again whole reads finds maps =
+    says_err text (ReadsColumns bytes (mapping_file folder name.name) entries) (StandsFor folder held entries name) stop
+    (λ halt at. over_weaker held (Both {A = A} folder name bytes (Ok a)) (λ h. NamesTable folder h entries name (Err halt)) (λ h both. badly_mapped folder h entries name bytes both.1.0 both.0 both.1.1 halt at)
+    (over_both folder A held now name file bytes (Ok a) same is reads finds))
+    (subst (λ b. Says text (ReadsColumns b (mapping_file folder name.name) entries) (Err stop)) whole (subst (λ f. Says text (ReadsColumns read f entries) (Err stop)) again maps))
+
+pub name_table : (text : List ℕ) (folder : Option (List ℕ)) (A : Type 0) (held now : Held) (entries : ℕ) (name : NameAt) (file bytes named read copied : List ℕ) (a : A) (columns : List MappedColumn) → now ≡ held
+    → file ≡ mapping_file folder name.name → named ≡ mapping_file folder name.name → read ≡ bytes → copied ≡ name.name
+    → ReadsOver held file name.span (Ok bytes) → FindsOver {A = A} now (row_file folder name.name) name.span (Ok a)
+    → Says text (ReadsColumns read named entries) (Ok columns)
+    → StandsFor folder held entries name (Ok (record { name = copied; span = name.span; columns = columns }))
+name_table text folder A held now entries name file bytes named read copied a columns same is again whole copy reads finds maps =
+    subst (λ (n : List ℕ). StandsFor folder held entries name (Ok (record { name = n; span = name.span; columns = columns }))) (sym copy)
+    (over_weaker held (Both {A = A} folder name bytes (Ok a)) (λ h. NamesTable folder h entries name (Ok (record { name = name.name; span = name.span; columns = columns })))
     (λ h both. table bytes both.1.0 columns both.0 both.1.1 (subst (λ b. IsMapping b columns) whole maps.0) maps.1)
-    (over_both A held now name file bytes (Ok a) same is reads finds))
+    (over_both folder A held now name file bytes (Ok a) same is reads finds))
 
 -- the files that are asked for of a name
-pub asks_rows : (held : Held) (entries : ℕ) (name : NameAt) (file bytes : List ℕ) → file ≡ mapping_file name.name → ReadsOver held file name.span (Ok bytes)
-    → (asked : List ℕ) → asked ≡ row_file name.name → AskedToFind held entries (name ∷ []) asked
-asks_rows held entries name file bytes is reads asked same =
-    subst (AskedToFind held entries (name ∷ [])) (sym same) (the_rows entries name [] bytes (subst (λ f. Over held (λ h. Holds h f bytes)) is reads))
+pub asks_rows : (folder : Option (List ℕ)) (held : Held) (entries : ℕ) (name : NameAt) (file bytes : List ℕ) → file ≡ mapping_file folder name.name → ReadsOver held file name.span (Ok bytes)
+    → (asked : List ℕ) → asked ≡ row_file folder name.name → AskedToFind folder held entries (name ∷ []) asked
+asks_rows folder held entries name file bytes is reads asked same =
+    subst (AskedToFind folder held entries (name ∷ [])) (sym same) (the_rows entries name [] bytes (subst (λ f. Over held (λ h. Holds h f bytes)) is reads))
 
-pub asks_mapping : (held : Held) (entries : ℕ) (name : NameAt) (file : List ℕ) → file ≡ mapping_file name.name → (asked : List ℕ) → asked ≡ file → AskedToFind held entries (name ∷ []) asked
-asks_mapping held entries name file is asked same = subst (AskedToFind held entries (name ∷ [])) (sym (same ∙ is)) (the_mapping entries name [])
+pub asks_mapping : (folder : Option (List ℕ)) (held : Held) (entries : ℕ) (name : NameAt) (file : List ℕ) → file ≡ mapping_file folder name.name → (asked : List ℕ) → asked ≡ file → AskedToFind folder held entries (name ∷ []) asked
+asks_mapping folder held entries name file is asked same = subst (AskedToFind folder held entries (name ∷ [])) (sym (same ∙ is)) (the_mapping entries name [])
 
 -- no file is asked for any more
 pub none_asked : {Files : Type 0} {holds : Files → Held} {faults : Files → ℕ} {failed : Files → List ℕ} (Q : List ℕ → Type 0) (stop : Stop) {old new : Files}
     → IsNoReadFault stop → NoneFailed holds faults failed old new → CalledToStop holds faults failed Q stop old new
-none_asked Q (UnknownTable span) none called = called
-none_asked Q (BadData message) none called = called
+none_asked Q (Refused line) none called = called
+none_asked Q (BadData line) none called = called
 none_asked Q (ReadFault file) none called = absurd none
 none_asked Q (Memory error) none called = inl called

@@ -1,10 +1,10 @@
 -- The uses of a query: they differ, and the places of their names are parts of the text.
-use Rattle.std.proofs.Common.{◌≡◌, ℕ, Bool, true, false, ◌&&◌, List, [], ◌∷◌, ◌++◌, All, refl, sym, subst, ◌∙◌}
-use Rattle.std.specs.Prelude.{fold, if◌then◌else◌}
+use Rattle.std.proofs.Common.{◌≡◌, ℕ, Bool, true, false, ◌&&◌, List, [], ◌∷◌, ◌++◌, All, refl}
+use Rattle.std.specs.Prelude.{cond, filter, fold, not, if◌then◌else◌}
 use Rattle.std.specs.List.{AllByRecursion, IsDistinct, list_any}
 use Rattle.std.specs.Str.{bytes_eq}
 use Rattle.std.proofs.lemmas.Bool.{or_parts}
-use Rattle.std.proofs.lemmas.List.Elements.{All-nil, All-head, All-tail, All-push, All-map, recursion_from_All}
+use Rattle.std.proofs.lemmas.List.Elements.{All-nil, All-cons, All-head, All-tail, All-push, All-map}
 use Rattle.esql_ast.specs.declared.query.NameAt.{NameAt}
 use Rattle.esql_ast.specs.declared.query.Query.{Query}
 use Rattle.esql_ast.specs.declared.query.Command.{Command}
@@ -17,7 +17,7 @@ use Rattle.esql_ast.specs.Fits.{NameFits, KindFits, SourceFits, QueryFits}
 use Rattle.esql_ast.specs.Uses.{same_bool, is_use_of, with_use, uses_in_source, with_kind, with_command, source_names}
 use Rattle.table_files.specs.Laws.{plain_names}
 use Rattle.table_files.specs.Shapes.{AreApart}
-use Rattle.table_files.specs.Uses.{is_same_use, used_names, NamesNoSource, NamesBySource}
+use Rattle.table_files.specs.Uses.{is_same_use, is_table, table_names, used_names}
 
 -- what holds at the start, and after each step where it held before, holds at the end
 fold_keeps : {A B : Type 0} (P : B → Type 0) (Q : A → Type 0) (step : B → A → B) → ((b : B) (a : A) → Q a → P b → P (step b a)) → (start : B) (xs : List A) → All Q xs → P start → P (fold step start xs)
@@ -78,64 +78,43 @@ source_names_differ query =
     fold_keeps (IsDistinct is_same_use) (λ (command : Command). Unit {0}) with_command (λ uses command any are. differ_kind uses command.kind are)
     (uses_in_source query.source) query.commands (λ k d within. tt) (differ_source query.source)
 
--- ---- the source alone names tables
+-- ---- the names of tables
 
-no_more : (uses : List SourceUse) (kind : CommandKind) → NamesNoSource kind → with_kind uses kind ≡ uses
-no_more uses (Filter condition) none = refl
-no_more uses (Eval fields) none = refl
-no_more uses (Keep patterns) none = refl
-no_more uses (Drop patterns) none = refl
-no_more uses (Rename pairs) none = refl
-no_more uses (Sort keys) none = refl
-no_more uses (Limit count) none = refl
-no_more uses (Expand column) none = refl
-no_more uses (Stats fields groups) none = refl
-no_more uses (Dissect input pattern separator) none = refl
-no_more uses (Grok input pattern) none = refl
-no_more uses (Enrich policy on fields) none = absurd none
-no_more uses (Join table on) none = absurd none
+-- one item more or not
+kept : {A : Type 0} (P : A → Type 0) (test : Bool) (x y : A) → (test ≡ true → P x) → P y → P (cond test x y)
+kept P true x y holds other = holds refl
+kept P false x y holds other = other
 
--- where no command names a table or a policy, the names are those of the source
-pub source_names_without : (query : Query) → NamesBySource query → source_names query ≡ uses_in_source query.source
-source_names_without query none =
-    fold_keeps (λ (uses : List SourceUse). uses ≡ uses_in_source query.source) (λ (command : Command). NamesNoSource command.kind) with_command
-    (λ uses command no is. no_more uses command.kind no ∙ is) (uses_in_source query.source) query.commands none refl
+abbrev names_in : List SourceUse → List (List ℕ)
+names_in uses = plain_names (used_names (filter is_table uses))
 
-abbrev IsTableUse : SourceUse → Type 0
-IsTableUse use_ = use_.policy ≡ false
-
-tables_with : (uses : List SourceUse) (name : NameAt) → All IsTableUse uses → All IsTableUse (with_use false uses name)
-tables_with uses name are =
-    either (All IsTableUse) (list_any (is_use_of name.name false) uses) uses (uses ++ record { name = name; policy = false } ∷ []) are
-    (λ none. All-push IsTableUse uses (record { name = name; policy = false }) are refl)
-
-tables_in : (source : SourceCommand) → All IsTableUse (uses_in_source source)
-tables_in (Tables node span tables) =
-    fold_keeps (All IsTableUse) (λ (name : NameAt). Unit {0}) (with_use false) (λ uses name any are. tables_with uses name are) [] tables (λ k d within. tt) (All-nil IsTableUse)
-tables_in (OneRow node span fields) = All-nil IsTableUse
-
-other_name : (same p q : Bool) → p ≡ false → q ≡ false → (same && same_bool p q) ≡ false → same ≡ false
+other_name : (same p q : Bool) → not p ≡ true → not q ≡ true → (same && same_bool p q) ≡ false → same ≡ false
 other_name false p q one other is = refl
 other_name true true q one other is = absurd cc
 other_name true false true one other is = absurd cc
 other_name true false false one other is = absurd cc
 
-first_apart : (use_ : SourceUse) (uses : List SourceUse) → IsTableUse use_ → AllByRecursion IsTableUse uses → AllByRecursion (λ other. is_same_use use_ other ≡ false) uses
-    → AllByRecursion (λ name. bytes_eq use_.name.name name ≡ false) (plain_names (used_names uses))
-first_apart use_ [] one tables are = tt
-first_apart use_ (next ∷ uses) one tables are =
-    (other_name (bytes_eq use_.name.name next.name.name) use_.policy next.policy one tables.0 are.0, first_apart use_ uses one tables.1 are.1)
+abbrev DiffersFrom : SourceUse → List ℕ → Type 0
+DiffersFrom use_ name = bytes_eq use_.name.name name ≡ false
 
-names_apart : (uses : List SourceUse) → AllByRecursion IsTableUse uses → IsDistinct is_same_use uses → AreApart (plain_names (used_names uses))
+first_apart : (use_ : SourceUse) (uses : List SourceUse) → is_table use_ ≡ true → AllByRecursion (λ other. is_same_use use_ other ≡ false) uses → AllByRecursion (DiffersFrom use_) (names_in uses)
+first_apart use_ [] one are = tt
+first_apart use_ (next ∷ uses) one are =
+    let rest = first_apart use_ uses one are.1 in
+    kept (λ (these : List SourceUse). AllByRecursion (DiffersFrom use_) (plain_names (used_names these))) (is_table next) (next ∷ filter is_table uses) (filter is_table uses)
+    (λ other. (other_name (bytes_eq use_.name.name next.name.name) use_.policy next.policy one other are.0, rest)) rest
+
+uses_apart : (uses : List SourceUse) → IsDistinct is_same_use uses → AreApart (names_in uses)
 unfolding IsDistinct
-names_apart [] tables are = tt
-names_apart (use_ ∷ uses) tables are = (first_apart use_ uses tables.0 tables.1 are.0, names_apart uses tables.1 are.1)
+uses_apart [] are = tt
+uses_apart (use_ ∷ uses) are =
+    let rest = uses_apart uses are.1 in
+    kept (λ (these : List SourceUse). AreApart (plain_names (used_names these))) (is_table use_) (use_ ∷ filter is_table uses) (filter is_table uses)
+    (λ one. (first_apart use_ uses one are.0, rest)) rest
 
--- where the source alone names tables, their names differ
-pub source_names_apart : (query : Query) → NamesBySource query → AreApart (plain_names (used_names (source_names query)))
-source_names_apart query none =
-    subst (λ (uses : List SourceUse). AreApart (plain_names (used_names uses))) (sym (source_names_without query none))
-    (names_apart (uses_in_source query.source) (recursion_from_All IsTableUse (uses_in_source query.source) (tables_in query.source)) (differ_source query.source))
+-- the names of the tables of a query differ
+pub names_apart : (query : Query) → AreApart (plain_names (table_names query))
+names_apart query = uses_apart (source_names query) (source_names_differ query)
 
 -- ---- the places of the names
 
@@ -173,3 +152,14 @@ source_names_fit text query fits =
     All-map (NameFits text) (λ (use_ : SourceUse). use_.name) (source_names query)
     (fold_keeps (All (UseFits text)) (λ (command : Command). KindFits text command.kind) with_command (λ uses command one all. fits_kind text uses command.kind one all)
     (uses_in_source query.source) query.commands fits.commands (fits_source text query.source fits.source))
+
+uses_fit : (text : List ℕ) (uses : List SourceUse) → All (NameFits text) (used_names uses) → All (NameFits text) (used_names (filter is_table uses))
+uses_fit text [] fit = All-nil (NameFits text)
+uses_fit text (use_ ∷ uses) fit =
+    let rest = uses_fit text uses (All-tail (NameFits text) use_.name (used_names uses) fit) in
+    kept (λ (these : List SourceUse). All (NameFits text) (used_names these)) (is_table use_) (use_ ∷ filter is_table uses) (filter is_table uses)
+    (λ one. All-cons (NameFits text) use_.name (used_names (filter is_table uses)) (All-head (NameFits text) use_.name (used_names uses) fit) rest) rest
+
+-- and so are those of the names of its tables
+pub names_fit : (text : List ℕ) (query : Query) → QueryFits text query → All (NameFits text) (table_names query)
+names_fit text query fits = uses_fit text (source_names query) (source_names_fit text query fits)

@@ -4,14 +4,14 @@ use Rattle.esql_types.specs.declared.names.Column.{Column}
 use Rattle.esql_plan.specs.declared.catalog.Catalog.{Catalog}
 use Rattle.esql_plan.specs.declared.catalog.TableShape.{TableShape}
 use Rattle.ndjson_load.specs.declared.column.MappedColumn.{MappedColumn}
-use Rattle.table_files.specs.declared.stop.TableSource.{TableSource}
+use Rattle.table_files.specs.declared.tables.FoundTable.{FoundTable}
 
 abbrev pub columns_of : List MappedColumn → List Column
 columns_of columns = map (λ (mapped : MappedColumn). mapped.column) columns
 
-abbrev pub shape_of : TableSource → TableShape
-shape_of source = record { name = source.name; columns = columns_of source.columns }
+abbrev pub shape_of : FoundTable → TableShape
+shape_of table = record { name = table.name; columns = columns_of table.columns }
 
 -- the tables with their names and columns, in order, and no policies
-abbrev pub catalog_of : List TableSource → Catalog
-catalog_of sources = record { tables = map shape_of sources; policies = [] }
+abbrev pub catalog_of : List FoundTable → Catalog
+catalog_of founds = record { tables = map shape_of founds; policies = [] }

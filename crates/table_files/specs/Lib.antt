@@ -1,6 +1,8 @@
+pub mod Answers
 pub mod Asked
 pub mod Catalog
 pub mod Catalogs
+pub mod Found
 pub mod Laws
 pub mod Messages
 pub mod Reading

@@ -2,19 +2,19 @@
 ghost use Rattle.std.specs.Prelude.{◌≡◌, map, IfOk};
 ghost use Rattle.table_files.specs.Catalogs.{catalog_of, columns_of, shape_of};
 
-use crate::TableSource;
+use crate::tables::FoundTable;
 use esql_plan::{Catalog, TableShape};
 use esql_types::{Column, Seq};
 use ndjson_load::MappedColumn;
 use std::alloc::{AllocError, Global};
 
 /// The catalog of tables that were found: each with its name and its columns, in order.
-pub fn catalog_of(alloc: Global, sources: &[TableSource]) -> Result<Catalog, AllocError>
-    ensures { IfOk result (λ catalog. catalog ≡ catalog_of sources.now) }
+pub(crate) fn catalog_of(alloc: Global, founds: &[FoundTable]) -> Result<Catalog, AllocError>
+    ensures { IfOk result (λ catalog. catalog ≡ catalog_of founds.now) }
 {
     let mut tables = Seq::new(alloc);
-    for source in sources {
-        tables.push(shape_of(alloc, source)?)?;
+    for found in founds {
+        tables.push(shape_of(alloc, found)?)?;
     }
     Ok(Catalog {
         tables,
@@ -22,12 +22,12 @@ pub fn catalog_of(alloc: Global, sources: &[TableSource]) -> Result<Catalog, All
     })
 }
 
-fn shape_of(alloc: Global, source: &TableSource) -> Result<TableShape, AllocError>
-    ensures { IfOk result (λ shape. shape ≡ shape_of source.now) }
+fn shape_of(alloc: Global, found: &FoundTable) -> Result<TableShape, AllocError>
+    ensures { IfOk result (λ shape. shape ≡ shape_of found.now) }
 {
     Ok(TableShape {
-        name: source.name.copy()?,
-        columns: columns_of(alloc, source.columns.as_slice())?,
+        name: found.name.copy()?,
+        columns: columns_of(alloc, found.columns.as_slice())?,
     })
 }
 

@@ -1,16 +1,16 @@
-ghost use Rattle.std.specs.Prelude.{◌≡◌, ℕ, List, Some, Result};
+ghost use Rattle.std.specs.Prelude.{◌≡◌, ℕ, List, Option, Some, Result};
 ghost use Rattle.esql_ast.specs.declared.query.NameAt.{NameAt};
 ghost use Rattle.ndjson_load.specs.Over.{BytesOf};
 ghost use Rattle.table_files.specs.Catalog.{Gathers, Halt, Loads, Rows};
 ghost use Rattle.table_files.specs.Laws.{SomeGathering, SomeHalt, SomeLoading};
-ghost use Rattle.table_files.specs.declared.stop.TableSource.{TableSource};
+ghost use Rattle.table_files.specs.declared.tables.FoundTable.{FoundTable};
 
 use ndjson_load::{no_mapping_fault, one_mapping, one_mapping_fault};
 
 /// A law: over files that tell what they hold, names stand for one list of tables at most, or halt at one place.
 pub fn one_gathering()
-    ensures { (held : BytesOf) (entries : ℕ) (names : List NameAt) (gathered other : Result (List TableSource) Halt)
-        → Gathers (Some held) entries names gathered → Gathers (Some held) entries names other → gathered ≡ other }
+    ensures { (folder : Option (List ℕ)) (held : BytesOf) (entries : ℕ) (names : List NameAt) (gathered other : Result (List FoundTable) Halt)
+        → Gathers folder (Some held) entries names gathered → Gathers folder (Some held) entries names other → gathered ≡ other }
 {
     one_mapping();
     one_mapping_fault();
@@ -19,7 +19,7 @@ pub fn one_gathering()
 
 /// A law: over files that tell what they hold, tables have one list of rows at most, or halt at one file.
 pub fn one_loading()
-    ensures { (held : BytesOf) (sources : List TableSource) (loaded other : Result (List Rows) Halt) → Loads (Some held) sources loaded → Loads (Some held) sources other → loaded ≡ other }
+    ensures { (folder : Option (List ℕ)) (held : BytesOf) (tables : List FoundTable) (loaded other : Result (List Rows) Halt) → Loads folder (Some held) tables loaded → Loads folder (Some held) tables other → loaded ≡ other }
 {}
 
 /// A law: over files that do not tell what they hold, what names that differ stand for is what they stand for over some contents.

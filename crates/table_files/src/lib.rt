@@ -1,4 +1,4 @@
-//! Tables by their names: `gather` finds them by their mappings, `load` reads their rows.
+//! The tables of a query: `gather` finds them by their mappings, `load` reads their rows.
 #![tactic(auto)]
 
 mod catalog;
@@ -6,12 +6,14 @@ mod gathering;
 mod laws;
 mod loading;
 mod messages;
+mod names;
 mod stop;
+mod tables;
 #[cfg(test)]
 mod tests;
 
-pub use catalog::catalog_of;
 pub use gathering::gather;
 pub use laws::{one_gathering, one_loading, some_gathering, some_halt, some_loading};
 pub use loading::load;
-pub use stop::{Stop, TableSource};
+pub use stop::Stop;
+pub use tables::{FoundTable, Gathered, Loaded, TableSource};

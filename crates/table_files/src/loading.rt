@@ -1,58 +1,97 @@
 //! Reading the rows of tables.
-ghost use Rattle.std.specs.Prelude.{◌≡◌, IfOk};
+ghost use Rattle.std.specs.Prelude.{◌≡◌, All, IfOk};
 ghost use Rattle.std.specs.List.{AllZip};
+ghost use Rattle.std.specs.Option.{option_copied};
+ghost use Rattle.esql_types.specs.Spans.{SpanFits};
+ghost use Rattle.esql_ast.specs.Fits.{QueryFits};
+ghost use Rattle.table_files.specs.Answers.{LoadsQuery, MayBeGathered};
 ghost use Rattle.table_files.specs.Asked.{AskedToLoad};
 ghost use Rattle.table_files.specs.Catalog.{HasRows, Loads, row_file};
+ghost use Rattle.table_files.specs.Found.{tables_of};
 ghost use Rattle.table_files.specs.Shapes.{IsTableOf};
-ghost use Rattle.table_files.specs.Stops.{CalledUntilStop, Says, IfUnknownTable, IsSourceSpan};
+ghost use Rattle.table_files.specs.Stops.{CalledUntilStop, Says};
 
 use crate::messages::{row_file, row_message, too_large};
-use crate::{Stop, TableSource};
+use crate::names::table_names;
+use crate::stop::{bad_data, unknown_table};
+use crate::tables::{FoundTable, found_by};
+use crate::{Gathered, Loaded, Stop};
+use esql_ast::Query;
 use esql_io::Files;
 use esql_types::Seq;
 use ndjson_load::{LoadError, Table, load_table};
 use std::alloc::Global;
 
-/// The rows of tables, in turn, up to the first bad file.
+/// The rows of the tables that were gathered for a query of a text, in turn, up to the first bad file.
 ///
-/// The rows of a table are those of its file `NAME.ndjson`. One that is no longer there is an `UnknownTable`; one that is too
-/// large, or has a bad row, is `BadData`. `ReadFault` comes only where a call on the named file failed, which is one that was
-/// asked for, and where a call failed nothing else does but `Memory`.
+/// The rows of a table are those of its file `NAME.ndjson`, in the folder where one is named. Where one is no longer there the
+/// query is `Refused` at the table's name; one that is too large, or has a bad row, is `BadData`. `ReadFault` comes only where
+/// a call on the named file failed, which is one that was asked for, and where a call failed nothing else does but `Memory`.
 pub fn load<F: Files>(
     alloc: Global,
+    text: &str,
+    query: &Query,
+    folder: Option<&str>,
+    gathered: Gathered,
     files: &mut F,
-    sources: &[TableSource],
+) -> Result<Loaded, Stop>
+    requires fits { QueryFits text.now query.now }
+    requires gathered { MayBeGathered (option_copied folder) query.now gathered }
+    ensures told { Says text.now (LoadsQuery (option_copied folder.entry) (F.holds files.old) query.now gathered) result }
+    ensures shaped { IfOk result (λ loaded. AllZip IsTableOf (tables_of query.now gathered) loaded.tables) }
+    ensures called { CalledUntilStop F.holds F.faults F.failed (AskedToLoad (option_copied folder.entry) (F.holds files.old) (tables_of query.now gathered)) result files.old files.new }
+{
+    let Gathered { catalog, sources } = gathered;
+    let names = table_names(alloc, query)?;
+    let founds = found_by(alloc, names, sources)?;
+    let tables = load_tables(alloc, text, folder, files, founds.as_slice())?;
+    Ok(Loaded { catalog, tables })
+}
+
+/// The rows of tables that were found, in turn, up to the first bad file.
+fn load_tables<F: Files>(
+    alloc: Global,
+    text: &str,
+    folder: Option<&str>,
+    files: &mut F,
+    founds: &[FoundTable],
 ) -> Result<Seq<Table>, Stop>
-    ensures told { Says (Loads (F.holds files.old) sources.now) result }
-    ensures shaped { IfOk result (AllZip IsTableOf sources.now) }
-    ensures place { IfUnknownTable result (IsSourceSpan sources.now) }
-    ensures called { CalledUntilStop F.holds F.faults F.failed (AskedToLoad (F.holds files.old) sources.now) result files.old files.new }
+    requires { All (λ found. SpanFits text.now found.span) founds.now }
+    ensures told { Says text.now (Loads (option_copied folder.entry) (F.holds files.old) founds.now) result }
+    ensures shaped { IfOk result (AllZip IsTableOf founds.now) }
+    ensures called { CalledUntilStop F.holds F.faults F.failed (AskedToLoad (option_copied folder.entry) (F.holds files.old) founds.now) result files.old files.new }
 {
     let mut tables = Seq::new(alloc);
-    for source in sources {
-        let table = load_source(alloc, files, source)?;
+    for found in founds {
+        let table = load_found(alloc, text, folder, files, found)?;
         tables.push(table)?;
     }
     Ok(tables)
 }
 
-fn load_source<F: Files>(alloc: Global, files: &mut F, source: &TableSource) -> Result<Table, Stop>
-    ensures told { Says (HasRows (F.holds files.old) source.now) result }
-    ensures shaped { IfOk result (IsTableOf source.now) }
-    ensures place { IfUnknownTable result (λ span. span ≡ source.now.span) }
-    ensures called { CalledUntilStop F.holds F.faults F.failed (λ asked. asked ≡ row_file source.now.name) result files.old files.new }
+/// The rows of a table that was found.
+fn load_found<F: Files>(
+    alloc: Global,
+    text: &str,
+    folder: Option<&str>,
+    files: &mut F,
+    found: &FoundTable,
+) -> Result<Table, Stop>
+    requires { SpanFits text.now found.now.span }
+    ensures told { Says text.now (HasRows (option_copied folder.entry) (F.holds files.old) found.now) result }
+    ensures shaped { IfOk result (IsTableOf found.now) }
+    ensures called { CalledUntilStop F.holds F.faults F.failed (λ asked. asked ≡ row_file (option_copied folder.entry) found.now.name) result files.old files.new }
 {
-    let file = row_file(alloc, source.name.as_str())?;
-    match load_table(alloc, files, file.as_str(), &source.columns) {
+    let file = row_file(alloc, folder, found.name.as_str())?;
+    match load_table(alloc, files, file.as_str(), &found.columns) {
         Ok(Some(table)) => Ok(table),
-        Ok(None) => Err(Stop::UnknownTable { span: source.span }),
+        Ok(None) => Err(unknown_table(alloc, text, found.span)?),
         Err(LoadError::ReadFault) => Err(Stop::ReadFault { file }),
-        Err(LoadError::TooLarge) => Err(Stop::BadData {
-            message: too_large(alloc, file.as_str())?,
-        }),
-        Err(LoadError::BadRow { line, field, cause }) => Err(Stop::BadData {
-            message: row_message(alloc, file.as_str(), line, field.as_str(), cause)?,
-        }),
+        Err(LoadError::TooLarge) => Err(bad_data(alloc, too_large(alloc, file.as_str())?)?),
+        Err(LoadError::BadRow { line, field, cause }) => {
+            let message = row_message(alloc, file.as_str(), line, field.as_str(), cause)?;
+            Err(bad_data(alloc, message)?)
+        }
         Err(LoadError::Memory(error)) => Err(Stop::Memory(error)),
     }
 }

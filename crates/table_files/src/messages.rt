@@ -1,7 +1,8 @@
 //! The names of files, and what is said of a file that is bad.
 ghost use Rattle.std.specs.Prelude.{◌≡◌, ◌++◌, IfOk, OnOk};
+ghost use Rattle.std.specs.Option.{option_copied};
 ghost use Rattle.std.specs.String.{string_bytes};
-ghost use Rattle.table_files.specs.Catalog.{mapping_file, row_file};
+ghost use Rattle.table_files.specs.Catalog.{table_file, folder_text, mapping_file, row_file};
 ghost use Rattle.table_files.specs.Messages.{too_large, too_many, mapping_message, mapping_text, row_message, row_text, of_file, of_path, of_field};
 
 use esql_types::Text;
@@ -9,21 +10,45 @@ use ndjson_load::{MappingCause, RowCause};
 use std::alloc::{AllocError, Global};
 
 /// The name of the file with the mapping of a table.
-pub(crate) fn mapping_file(alloc: Global, name: &str) -> Result<Text, AllocError>
-    ensures { IfOk result (λ file. file ≡ mapping_file name.now) }
+pub(crate) fn mapping_file(
+    alloc: Global,
+    folder: Option<&str>,
+    name: &str,
+) -> Result<Text, AllocError>
+    ensures { IfOk result (λ file. file ≡ mapping_file (option_copied folder.entry) name.now) }
 {
-    let mut out = String::new(alloc);
-    write!(out, "{name}.mapping.json")?;
-    Ok(Text::from_string(out))
+    table_file(alloc, folder, name, ".mapping.json")
 }
 
 /// The name of the file with the rows of a table.
-pub(crate) fn row_file(alloc: Global, name: &str) -> Result<Text, AllocError>
-    ensures { IfOk result (λ file. file ≡ row_file name.now) }
+pub(crate) fn row_file(alloc: Global, folder: Option<&str>, name: &str) -> Result<Text, AllocError>
+    ensures { IfOk result (λ file. file ≡ row_file (option_copied folder.entry) name.now) }
+{
+    table_file(alloc, folder, name, ".ndjson")
+}
+
+/// The name of a file of a table: the folder, if one is named, the name of the table, and what the file is.
+fn table_file(
+    alloc: Global,
+    folder: Option<&str>,
+    name: &str,
+    suffix: &str,
+) -> Result<Text, AllocError>
+    ensures { IfOk result (λ file. file ≡ table_file (option_copied folder.entry) name.now suffix.now) }
 {
     let mut out = String::new(alloc);
-    write!(out, "{name}.ndjson")?;
+    push_folder(&mut out, folder)?;
+    write!(out, "{name}{suffix}")?;
     Ok(Text::from_string(out))
+}
+
+fn push_folder(out: &mut String, folder: Option<&str>) -> Result<(), AllocError>
+    ensures { OnOk result (string_bytes out.new ≡ string_bytes out.old ++ folder_text (option_copied folder.entry)) }
+{
+    match folder {
+        None => Ok(()),
+        Some(folder) => write!(out, "{folder}/"),
+    }
 }
 
 /// The message on a file that is longer than files are read.

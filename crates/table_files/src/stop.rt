@@ -1,25 +1,21 @@
-ghost use Rattle.std.specs.Prelude.{◌≡◌};
-ghost use Rattle.table_files.specs.declared.stop.Stop.TheVariants.{Memory};
+ghost use Rattle.std.specs.Prelude.{◌≡◌, IfOk};
+ghost use Rattle.esql_types.specs.Spans.{SpanFits};
+ghost use Rattle.answer_text.specs.Messages.{bad_data_line};
+ghost use Rattle.answer_text.specs.Refusals.{refusal_line};
+ghost use Rattle.answer_text.specs.declared.refusals.Refusal.TheVariants.{UnknownTable};
+ghost use Rattle.table_files.specs.declared.stop.Stop.TheVariants.{BadData, Memory, Refused};
 
-use esql_types::{Seq, Span, Text};
-use ndjson_load::MappedColumn;
-use std::alloc::AllocError;
-
-/// A table that a query names: its name, where it stands in the query, and its columns.
-#[derive(Drop)]
-pub struct TableSource {
-    pub name: Text,
-    pub span: Span,
-    pub columns: Seq<MappedColumn>,
-}
+use answer_text::{Refusal, bad_data_line, refusal_line};
+use esql_types::{Span, Text};
+use std::alloc::{AllocError, Global};
 
 /// Why tables were not found or not loaded.
 #[derive(Drop)]
 pub enum Stop {
-    /// No table has the name that stands there.
-    UnknownTable { span: Span },
-    /// A file is bad, as a message says that names it.
-    BadData { message: Text },
+    /// The query is refused at a name that is no table's, with the line that says so.
+    Refused { line: Text },
+    /// A file is bad, with the line that names it.
+    BadData { line: Text },
     /// A call on a file failed.
     ReadFault { file: Text },
     Memory(AllocError),
@@ -31,4 +27,23 @@ impl From<AllocError> for Stop {
     fn from(error: AllocError) -> Stop {
         Stop::Memory(error)
     }
+}
+
+/// The stop at a name of the query that is no table's.
+pub(crate) fn unknown_table(alloc: Global, text: &str, span: Span) -> Result<Stop, AllocError>
+    requires { SpanFits text.now span }
+    ensures { IfOk result (λ stop. stop ≡ Refused (refusal_line text.now UnknownTable span)) }
+{
+    Ok(Stop::Refused {
+        line: refusal_line(alloc, text, Refusal::UnknownTable, span)?,
+    })
+}
+
+/// The stop at a bad file, of which a message says why.
+pub(crate) fn bad_data(alloc: Global, message: Text) -> Result<Stop, AllocError>
+    ensures { IfOk result (λ stop. stop ≡ BadData (bad_data_line message)) }
+{
+    Ok(Stop::BadData {
+        line: bad_data_line(alloc, message.as_str())?,
+    })
 }

@@ -1,7 +1,11 @@
+ghost use Rattle.std.specs.Prelude.{IfOk, IfSome};
+ghost use Rattle.esql_ast.specs.Fits.{QueryFits};
+
 use super::*;
-use esql_ast::NameAt;
+use esql_ast::{NameAt, Query, SourceCommand};
 use esql_io::{HeldFile, MemoryFiles};
-use esql_types::{Seq, Span, Text};
+use esql_plan::Catalog;
+use esql_types::{NodeId, Seq, Span, Text};
 use ndjson_load::Table;
 use std::alloc::{AllocError, Global};
 use std::test::Fail;
@@ -17,58 +21,64 @@ const ROWS: &str = "{\"k\":\"x\"}\n\n{\"a\":{\"b\":[1,2]}}\n";
 
 const DONE: &str = "t: a.b k; 2 rows";
 
-// The mapping, the rows, and what is answered of the name `t` at 5.
+const UNKNOWN: &str = "line 1:6: unknown table [t]\n";
+
+// The mapping, the rows, and what is answered of the query `FROM t`.
 const CASES: &[(&str, &str, &str)] = &[
     (MAPPING, ROWS, DONE),
     (MAPPING, "", "t: a.b k; 0 rows"),
-    (ABSENT, ROWS, "unknown at 5..6"),
-    (MAPPING, ABSENT, "unknown at 5..6"),
-    (ABSENT, ABSENT, "unknown at 5..6"),
-    ("{\"mappings\"", ABSENT, "unknown at 5..6"),
-    ("{\"mappings\"", "[]", "t.mapping.json: not readable JSON"),
-    ("{}", "", "t.mapping.json: no mappings.properties"),
+    (ABSENT, ROWS, UNKNOWN),
+    (MAPPING, ABSENT, UNKNOWN),
+    (ABSENT, ABSENT, UNKNOWN),
+    ("{\"mappings\"", ABSENT, UNKNOWN),
+    ("{\"mappings\"", "[]", "t.mapping.json: not readable JSON\n"),
+    ("{}", "", "t.mapping.json: no mappings.properties\n"),
     (
         "{\"mappings\":{\"properties\":{\"a\":1}}}",
         "",
-        "t.mapping.json: [a] is not an object",
+        "t.mapping.json: [a] is not an object\n",
     ),
     (
         "{\"mappings\":{\"properties\":{\"a\":{\"type\":1}}}}",
         "",
-        "t.mapping.json: type of [a] is not a text",
+        "t.mapping.json: type of [a] is not a text\n",
     ),
     (
         "{\"mappings\":{\"properties\":{\"a\":{\"type\":\"long\",\"null_value\":\"x\"}}}}",
         "",
-        "t.mapping.json: bad parameter of [a]",
+        "t.mapping.json: bad parameter of [a]\n",
     ),
     (
         "{\"mappings\":{\"properties\":{\"a\":{\"properties\":{\"b\":{\"type\":\"long\"}}},\"a.b\":{\"type\":\"long\"}}}}",
         "",
-        "t.mapping.json: [a.b] is mapped twice",
+        "t.mapping.json: [a.b] is mapped twice\n",
     ),
-    (MAPPING, "{}\n{\n", "t.ndjson:2: not readable JSON"),
-    (MAPPING, "\n[]", "t.ndjson:2: not an object"),
+    (MAPPING, "{}\n{\n", "t.ndjson:2: not readable JSON\n"),
+    (MAPPING, "\n[]", "t.ndjson:2: not an object\n"),
     (
         MAPPING,
         "{}\n\n\n{\"a\":{\"b\":1.5}}\n",
-        "t.ndjson:4: field [a.b]: not a whole number in range",
+        "t.ndjson:4: field [a.b]: not a whole number in range\n",
     ),
     (
         MAPPING,
         "{\"k\":{}}",
-        "t.ndjson:1: field [k]: value expected",
+        "t.ndjson:1: field [k]: value expected\n",
     ),
     (
         MAPPING,
         "{\"a\":1}",
-        "t.ndjson:1: field [a.b]: object expected",
+        "t.ndjson:1: field [a.b]: object expected\n",
     ),
-    (MAPPING, "{\"k\":1.5}", "t.ndjson:1: field [k]: not a text"),
+    (
+        MAPPING,
+        "{\"k\":1.5}",
+        "t.ndjson:1: field [k]: not a text\n",
+    ),
     (
         "{\"mappings\":{\"properties\":{\"a\":{\"type\":\"boolean\"}}}}",
         "{\"a\":1}",
-        "t.ndjson:1: field [a]: not a boolean",
+        "t.ndjson:1: field [a]: not a boolean\n",
     ),
 ];
 
@@ -90,31 +100,59 @@ fn hold(
 // Files of which one read gives at most 16 bytes, and one call fails.
 fn files(
     alloc: Global,
+    front: &str,
     mapping: &str,
     rows: &str,
     failing: u64,
 ) -> Result<MemoryFiles, AllocError> {
     let mut held = Seq::new(alloc);
-    hold(alloc, &mut held, "t.mapping.json", mapping)?;
-    hold(alloc, &mut held, "t.ndjson", rows)?;
+    let mapping_file = format!(in alloc; "{front}t.mapping.json")?;
+    hold(alloc, &mut held, mapping_file.as_str(), mapping)?;
+    let row_file = format!(in alloc; "{front}t.ndjson")?;
+    hold(alloc, &mut held, row_file.as_str(), rows)?;
     let mut numbers = Seq::new(alloc);
     numbers.push(failing)?;
     Ok(MemoryFiles::new(held, 16, numbers))
 }
 
+// The query `FROM t`, where the text is as long as that and has no other characters than those of ASCII.
+fn from_table(alloc: Global, text: &str) -> Result<Option<Query>, AllocError>
+    ensures { IfOk result (λ query. IfSome query (QueryFits text.now)) }
+{
+    if !text.is_ascii() || text.len() != 6 {
+        return Ok(None);
+    }
+    let mut tables = Seq::new(alloc);
+    tables.push(NameAt {
+        name: Text::from_str(alloc, "t")?,
+        span: Span { from: 5, to: 6 },
+    })?;
+    Ok(Some(Query {
+        source: SourceCommand::Tables {
+            node: NodeId(0),
+            span: Span { from: 0, to: 6 },
+            tables,
+        },
+        commands: Seq::new(alloc),
+        nodes: 1,
+    }))
+}
+
 fn push_stop(out: &mut String, stop: &Stop) -> Result<(), AllocError> {
     match stop {
-        Stop::UnknownTable { span } => write!(out, "unknown at {}..{}", span.from, span.to),
-        Stop::BadData { message } => out.push_str(message.as_str()),
+        Stop::Refused { line } => out.push_str(line.as_str()),
+        Stop::BadData { line } => out.push_str(line.as_str()),
         Stop::ReadFault { file } => write!(out, "fault of {}", file.as_str()),
         Stop::Memory(error) => Err(*error),
     }
 }
 
-fn push_columns(out: &mut String, source: &TableSource) -> Result<(), AllocError> {
-    write!(out, "{}:", source.name.as_str())?;
-    for column in source.columns.as_slice() {
-        write!(out, " {}", column.column.name.as_str())?;
+fn push_catalog(out: &mut String, catalog: &Catalog) -> Result<(), AllocError> {
+    for table in catalog.tables.as_slice() {
+        write!(out, "{}:", table.name.as_str())?;
+        for column in table.columns.as_slice() {
+            write!(out, " {}", column.name.as_str())?;
+        }
     }
     Ok(())
 }
@@ -126,22 +164,22 @@ fn push_tables(out: &mut String, tables: &[Table]) -> Result<(), AllocError> {
     Ok(())
 }
 
-// What is answered of the name `t`.
-fn answer(alloc: Global, mapping: &str, rows: &str, failing: u64) -> Result<String, AllocError> {
-    let mut files = files(alloc, mapping, rows, failing)?;
-    let mut names = Seq::new(alloc);
-    names.push(NameAt {
-        name: Text::from_str(alloc, "t")?,
-        span: Span { from: 5, to: 6 },
-    })?;
+// The tables of a query, or why there are none.
+fn answer(
+    alloc: Global,
+    text: &str,
+    query: &Query,
+    folder: Option<&str>,
+    files: &mut MemoryFiles,
+) -> Result<String, AllocError>
+    requires { QueryFits text.now query.now }
+{
     let mut out = String::new(alloc);
-    match gather(alloc, &mut files, names.as_slice()) {
-        Ok(sources) => match load(alloc, &mut files, sources.as_slice()) {
-            Ok(tables) => {
-                for source in sources.as_slice() {
-                    push_columns(&mut out, source)?;
-                }
-                push_tables(&mut out, tables.as_slice())?;
+    match gather(alloc, text, query, folder, files) {
+        Ok(gathered) => match load(alloc, text, query, folder, gathered, files) {
+            Ok(loaded) => {
+                push_catalog(&mut out, &loaded.catalog)?;
+                push_tables(&mut out, loaded.tables.as_slice())?;
             }
             Err(stop) => push_stop(&mut out, &stop)?,
         },
@@ -153,8 +191,11 @@ fn answer(alloc: Global, mapping: &str, rows: &str, failing: u64) -> Result<Stri
 #[test]
 fn names_stand_for_tables(rt: HostRuntime) -> Result<(), Fail> {
     for (mapping, rows, wanted) in CASES {
-        let answer = answer(rt.alloc(), mapping, rows, NEVER)?;
-        assert_eq!(rt; answer.as_str(), *wanted);
+        let mut files = files(rt.alloc(), "", mapping, rows, NEVER)?;
+        if let Some(query) = from_table(rt.alloc(), "FROM t")? {
+            let answer = answer(rt.alloc(), "FROM t", &query, None, &mut files)?;
+            assert_eq!(rt; answer.as_str(), *wanted);
+        }
     }
     Ok(())
 }
@@ -166,15 +207,18 @@ fn each_failed_call_is_a_fault(rt: HostRuntime) -> Result<(), Fail> {
     let mapping_calls = 2 + (MAPPING.len() as u64 + 15) / 16;
     let calls = mapping_calls + 3 + (ROWS.len() as u64 + 15) / 16;
     for call in 0..=calls {
-        let answer = answer(rt.alloc(), MAPPING, ROWS, call)?;
-        let wanted = if call < mapping_calls {
-            "fault of t.mapping.json"
-        } else if call < calls {
-            "fault of t.ndjson"
-        } else {
-            DONE
-        };
-        assert_eq!(rt; answer.as_str(), wanted);
+        let mut files = files(rt.alloc(), "d/", MAPPING, ROWS, call)?;
+        if let Some(query) = from_table(rt.alloc(), "FROM t")? {
+            let answer = answer(rt.alloc(), "FROM t", &query, Some("d"), &mut files)?;
+            let wanted = if call < mapping_calls {
+                "fault of d/t.mapping.json"
+            } else if call < calls {
+                "fault of d/t.ndjson"
+            } else {
+                DONE
+            };
+            assert_eq!(rt; answer.as_str(), wanted);
+        }
     }
     Ok(())
 }
