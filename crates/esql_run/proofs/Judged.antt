@@ -1,5 +1,5 @@
 -- What is answered where a rule is broken, or a pattern is too large.
-use Rattle.std.proofs.Common.{◌≡◌, ℕ, Bool, List, Some, None, Result, Ok, Err, IfOk, sym, subst}
+use Rattle.std.proofs.Common.{◌≡◌, ℕ, Bool, List, Option, Some, None, Result, Ok, Err, IfOk, sym, subst}
 use Rattle.esql_io.specs.Files.{Held}
 use Rattle.esql_io.specs.Calls.{NoneFailed}
 use Rattle.esql_types.specs.Spans.{SpanFits}
@@ -19,9 +19,11 @@ use Rattle.expression_analysis.specs.declared.error.AnalyzeError.{AnalyzeError}
 use Rattle.expression_analysis.specs.declared.error.AnalyzeError.TheVariants.{Broken, PatternRoom as StoppedByRoom, Memory as LackedMemory}
 use Rattle.expression_analysis.specs.Answers.{accepted_but, IsRefusal, IsTold, IsQuietAt}
 use Rattle.esql_analyze.specs.Regulars.{regulars_of_query}
-use Rattle.table_files.specs.declared.stop.TableSource.{TableSource}
+use Rattle.table_files.specs.declared.tables.FoundTable.{FoundTable}
 use Rattle.table_files.specs.Catalog.{Gathers}
 use Rattle.table_files.specs.Catalogs.{catalog_of}
+use Rattle.table_files.specs.Uses.{table_names}
+use Rattle.esql_words.specs.declared.options.Format.{Format}
 use Rattle.esql_run.specs.declared.rendered.Rendered.{Rendered}
 use Rattle.esql_run.specs.declared.rendered.Unanswered.{Unanswered}
 use Rattle.esql_run.specs.declared.rendered.Unanswered.TheVariants.{ReadFault, PatternRoom, Memory}
@@ -29,7 +31,7 @@ use Rattle.esql_run.specs.Built.{unbuilt_of}
 use Rattle.esql_run.specs.Made.{outcome_made}
 use Rattle.esql_run.specs.Rooms.{IsRoomOf}
 use Rattle.esql_run.specs.Stopped.{CalledToAnswer, MadeToAnswer, IsUnprepared, ErrorFits}
-use Rattle.esql_run.specs.Tables.{table_names, IsTablesOutcome, broken}
+use Rattle.esql_run.specs.Tables.{IsTablesOutcome, broken}
 
 -- the query is judged by its tables, and by which regular expressions are accepted
 abbrev judged : List ℕ → Catalog → Query → (Regular → Bool) → Shape
@@ -47,16 +49,16 @@ error_fits text catalog query (StoppedByRoom span) fits is = placed text catalog
 error_fits text catalog query (LackedMemory error) fits is = tt
 
 -- a broken rule is what the query is refused for
-pub broken_told : (text : List ℕ) (held : Held) (query : Query) (sources : List TableSource) (catalog : Catalog) (error : AnalyzeError) (result : Result Rendered Unanswered) → catalog ≡ catalog_of sources
-    → Gathers held 0 (table_names query) (Ok sources) → IsRefusal (judged text catalog query) error → IsUnprepared text error result
-    → IfOk result (λ answer. IsTablesOutcome held text query (outcome_made answer))
-broken_told text held query sources catalog (Broken rule span) (Ok answer) are gathers why is =
+pub broken_told : (text : List ℕ) (folder : Option (List ℕ)) (format : Format) (held : Held) (query : Query) (tables : List FoundTable) (catalog : Catalog) (error : AnalyzeError) (result : Result Rendered Unanswered) → catalog ≡ catalog_of tables
+    → Gathers folder held 0 (table_names query) (Ok tables) → IsRefusal (judged text catalog query) error → IsUnprepared text error result
+    → IfOk result (λ answer. IsTablesOutcome folder format held text query (outcome_made answer))
+broken_told text folder format held query tables catalog (Broken rule span) (Ok answer) are gathers why is =
     let first : BrokenRule = record { rule = rule; span = span } in
-    let shape : shape_of text (catalog_of sources) query ≡ Err first = subst (λ (c : Catalog). judged text c query is_accepted ≡ Err first) are why in
-    subst (IsTablesOutcome held text query) (sym is) (broken sources first gathers shape)
-broken_told text held query sources catalog (StoppedByRoom span) (Ok answer) are gathers why is = absurd is
-broken_told text held query sources catalog (LackedMemory error) (Ok answer) are gathers why is = absurd is
-broken_told text held query sources catalog error (Err unanswered) are gathers why is = tt
+    let shape : shape_of text (catalog_of tables) query ≡ Err first = subst (λ (c : Catalog). judged text c query is_accepted ≡ Err first) are why in
+    subst (IsTablesOutcome folder format held text query) (sym is) (broken tables first gathers shape)
+broken_told text folder format held query tables catalog (StoppedByRoom span) (Ok answer) are gathers why is = absurd is
+broken_told text folder format held query tables catalog (LackedMemory error) (Ok answer) are gathers why is = absurd is
+broken_told text folder format held query tables catalog error (Err unanswered) are gathers why is = tt
 
 -- no file is opened meanwhile
 pub called_judged : {Files : Type 0} {holds : Files → Held} {faults : Files → ℕ} {failed : Files → List ℕ} (P : List ℕ → Type 0) (text : List ℕ) (error : AnalyzeError) (result : Result Rendered Unanswered) (old new : Files)
@@ -69,25 +71,25 @@ called_judged P text error (Err (PatternRoom line)) old new none is = none
 called_judged P text error (Err (Memory lack)) old new none is = tt
 
 -- the line for a pattern that is too large says what the maker told
-pub made_judged : {Maker : Type 0} (count : Maker → ℕ) (last : Maker → List ℕ) (text : List ℕ) (held : Held) (query : Query) (sources : List TableSource) (catalog : Catalog) (error : AnalyzeError) (result : Result Rendered Unanswered) (old new : Maker)
-    → catalog ≡ catalog_of sources → unbuilt_of query ≡ None → Over held (λ bytes_of. Gathers (Some bytes_of) 0 (table_names query) (Ok sources)) → IsRefusal (judged text catalog query) error
+pub made_judged : {Maker : Type 0} (count : Maker → ℕ) (last : Maker → List ℕ) (folder : Option (List ℕ)) (text : List ℕ) (held : Held) (query : Query) (tables : List FoundTable) (catalog : Catalog) (error : AnalyzeError) (result : Result Rendered Unanswered) (old new : Maker)
+    → catalog ≡ catalog_of tables → unbuilt_of query ≡ None → Over held (λ bytes_of. Gathers folder (Some bytes_of) 0 (table_names query) (Ok tables)) → IsRefusal (judged text catalog query) error
     → IsTold count last (regulars_of_query query) old new error → IsQuietAt count last old new error → IsUnprepared text error result
-    → MadeToAnswer count (IsRoomOf count last text held query) result old new
-made_judged count last text held query sources catalog (Broken rule span) (Ok answer) old new are built somewhere why told quiet is = quiet.counted
-made_judged count last text held query sources catalog (StoppedByRoom span) (Ok answer) old new are built somewhere why told quiet is = absurd is
-made_judged count last text held query sources catalog (LackedMemory error) (Ok answer) old new are built somewhere why told quiet is = absurd is
-made_judged count last text held query sources catalog (Broken rule span) (Err (ReadFault file)) old new are built somewhere why told quiet is = absurd is
-made_judged count last text held query sources catalog (StoppedByRoom span) (Err (ReadFault file)) old new are built somewhere why told quiet is = absurd is
-made_judged count last text held query sources catalog (LackedMemory error) (Err (ReadFault file)) old new are built somewhere why told quiet is = absurd is
-made_judged count last text held query sources catalog (Broken rule span) (Err (PatternRoom line)) old new are built somewhere why told quiet is = absurd is
-made_judged count last text held query sources catalog (StoppedByRoom span) (Err (PatternRoom line)) old new are built somewhere why told quiet is = record {
+    → MadeToAnswer count (IsRoomOf count last folder text held query) result old new
+made_judged count last folder text held query tables catalog (Broken rule span) (Ok answer) old new are built somewhere why told quiet is = quiet.counted
+made_judged count last folder text held query tables catalog (StoppedByRoom span) (Ok answer) old new are built somewhere why told quiet is = absurd is
+made_judged count last folder text held query tables catalog (LackedMemory error) (Ok answer) old new are built somewhere why told quiet is = absurd is
+made_judged count last folder text held query tables catalog (Broken rule span) (Err (ReadFault file)) old new are built somewhere why told quiet is = absurd is
+made_judged count last folder text held query tables catalog (StoppedByRoom span) (Err (ReadFault file)) old new are built somewhere why told quiet is = absurd is
+made_judged count last folder text held query tables catalog (LackedMemory error) (Err (ReadFault file)) old new are built somewhere why told quiet is = absurd is
+made_judged count last folder text held query tables catalog (Broken rule span) (Err (PatternRoom line)) old new are built somewhere why told quiet is = absurd is
+made_judged count last folder text held query tables catalog (StoppedByRoom span) (Err (PatternRoom line)) old new are built somewhere why told quiet is = record {
   span = span;
-  sources = sources;
+  tables = tables;
   built = built;
   gathers = somewhere;
   refuses = subst (λ (c : Catalog). judged text c query (accepted_but span) ≡ Err (record { rule = BadRegex; span = span })) are why;
   told = told;
   is = is;
 }
-made_judged count last text held query sources catalog (LackedMemory error) (Err (PatternRoom line)) old new are built somewhere why told quiet is = absurd is
-made_judged count last text held query sources catalog error (Err (Memory lack)) old new are built somewhere why told quiet is = tt
+made_judged count last folder text held query tables catalog (LackedMemory error) (Err (PatternRoom line)) old new are built somewhere why told quiet is = absurd is
+made_judged count last folder text held query tables catalog error (Err (Memory lack)) old new are built somewhere why told quiet is = tt

@@ -8,4 +8,3 @@ mod OneTables
 mod Somewhere
 mod Stops
 mod TableKinds
-mod TableNames

@@ -1,5 +1,5 @@
 -- Words have at most one outcome.
-use Rattle.std.proofs.Common.{◌≡◌, inl, inr, ℕ, ◌<◌, List, [], ◌∷◌, length, slice_get, Option, Some, None, refl, sym, ap, ◌∙◌, subst, arith}
+use Rattle.std.proofs.Common.{◌≡◌, inl, inr, ℕ, ◌<◌, List, [], length, slice_get, Option, Some, None, refl, sym, ap, ◌∙◌, subst, arith}
 use Rattle.esql_lex.specs.declared.error.LexError.{LexError}
 use Rattle.esql_lex.specs.declared.error.LexError.TheVariants as fault
 use Rattle.esql_lex.specs.declared.token.Token.{Token}
@@ -15,8 +15,13 @@ use Rattle.esql_io.specs.Files.{Held}
 use Rattle.ndjson_load.specs.Over.{BytesOf}
 use Rattle.esql_run.specs.Bytes.{Outcome, refused}
 use Rattle.esql_run.specs.Built.{unbuilt_of}
-use Rattle.esql_run.specs.Outcome.{IsAnswer, IsOutcome, AnswersBy, AnswersQuery, ReadsKnown}
-use Rattle.esql_run.specs.Tables.{table_names}
+use Rattle.esql_run.specs.Outcome.{IsAnswer, IsOutcome, AnswersBy, AnswersQuery, AnswersOptions, AnswersRequest, OptionsReadKnown, ReadsKnown, ReadsNoFile}
+use Rattle.esql_words.specs.declared.options.Format.{Format}
+use Rattle.esql_words.specs.declared.options.Options.{Options}
+use Rattle.esql_words.specs.declared.options.Request.{Request}
+use Rattle.esql_words.specs.declared.options.Request.TheVariants.{Query as AskQuery, Generate}
+use Rattle.esql_words.specs.Words.{options_of}
+use Rattle.table_files.specs.Uses.{table_names}
 use Rattle.esql_answer.specs.Queries.{IsQuery, IsNoQuery, too_long, bad_character, open_string, bad_escape, open_comment, wide_number, unexpected, too_deep, too_many, HasFault, HasRefusal, unexpected_kind, point_at}
 use Rattle.esql_run.proofs.OneTables.{TableLaws, one_over_tables, over_any}
 
@@ -115,38 +120,54 @@ no_reason laws text query why span is (by_refusal e t has a b) =
     laws.no_refusal text has.tokens query e (subst (λ ts. Spells text ts query) tokens is.spelled) has.refuses
 
 -- over files that tell what they hold, a query has one answer
-one_by : (laws : Laws) (unbuilt : Option Span) (text : List ℕ) (held : BytesOf) (query : Query) (outcome other : Outcome) → AnswersBy unbuilt text (Some held) query outcome
-    → AnswersBy unbuilt text (Some held) query other → outcome ≡ other
-one_by laws (Some span) text held query outcome other is was = is ∙ sym was
-one_by laws None text held query outcome other is was = one_over_tables laws.tables held text query outcome other is was
+one_by : (laws : Laws) (unbuilt : Option Span) (folder : Option (List ℕ)) (format : Format) (text : List ℕ) (held : BytesOf) (query : Query) (outcome other : Outcome)
+    → AnswersBy unbuilt folder format text (Some held) query outcome → AnswersBy unbuilt folder format text (Some held) query other → outcome ≡ other
+one_by laws (Some span) folder format text held query outcome other is was = is ∙ sym was
+one_by laws None folder format text held query outcome other is was = one_over_tables laws.tables folder format held text query outcome other is was
 
 -- so has one for which no file is read
-one_unread : (laws : Laws) (unbuilt : Option Span) (text : List ℕ) (query : Query) (outcome other : Outcome) → (unbuilt ≡ None → table_names query ≡ []) → AnswersBy unbuilt text None query outcome
-    → AnswersBy unbuilt text None query other → outcome ≡ other
-one_unread laws (Some span) text query outcome other none is was = is ∙ sym was
-one_unread laws None text query outcome other none (one, is) (held, was) =
-    one_over_tables laws.tables held text query outcome other (over_any one held text query outcome (none refl) is) was
+one_unread : (laws : Laws) (unbuilt : Option Span) (folder : Option (List ℕ)) (format : Format) (text : List ℕ) (query : Query) (outcome other : Outcome) → (unbuilt ≡ None → table_names query ≡ [])
+    → AnswersBy unbuilt folder format text None query outcome → AnswersBy unbuilt folder format text None query other → outcome ≡ other
+one_unread laws (Some span) folder format text query outcome other none is was = is ∙ sym was
+one_unread laws None folder format text query outcome other none (one, is) (held, was) =
+    one_over_tables laws.tables folder format held text query outcome other (over_any folder format one held text query outcome (none refl) is) was
 
-same_answer : (laws : Laws) (text : List ℕ) (held : Held) (query : Query) (outcome other : Outcome) → ReadsKnown (text ∷ []) held → IsQuery text query → AnswersQuery text held query outcome
-    → AnswersQuery text held query other → outcome ≡ other
-same_answer laws text (Some held) query outcome other known is a b = one_by laws (unbuilt_of query) text held query outcome other a b
-same_answer laws text None query outcome other known is a b = one_unread laws (unbuilt_of query) text query outcome other (known query is) a b
+-- what is read for a text is known
+abbrev TextReadsKnown : List ℕ → Held → Type 0
+TextReadsKnown text (Some held) = Unit {0}
+TextReadsKnown text None = ReadsNoFile text
+
+same_answer : (laws : Laws) (folder : Option (List ℕ)) (format : Format) (text : List ℕ) (held : Held) (query : Query) (outcome other : Outcome) → TextReadsKnown text held → IsQuery text query
+    → AnswersQuery folder format text held query outcome → AnswersQuery folder format text held query other → outcome ≡ other
+same_answer laws folder format text (Some held) query outcome other known is a b = one_by laws (unbuilt_of query) folder format text held query outcome other a b
+same_answer laws folder format text None query outcome other known is a b = one_unread laws (unbuilt_of query) folder format text query outcome other (known query is) a b
 
 same_query : (laws : Laws) (text : List ℕ) (query other : Query) → IsQuery text query → IsQuery text other → query ≡ other
 same_query laws text query other is was =
     let tokens : is.tokens ≡ was.tokens = laws.one_list text is.tokens was.tokens is.lexed was.lexed in
     laws.one_query text was.tokens query other (subst (λ ts. Spells text ts query) tokens is.spelled) was.spelled
 
-pub one_answer : (laws : Laws) (text : List ℕ) (held : Held) (outcome other : Outcome) → ReadsKnown (text ∷ []) held → IsAnswer text held outcome → IsAnswer text held other → outcome ≡ other
-one_answer laws text held outcome other known (inl (query, is, a)) (inl (query2, was, b)) =
-    same_answer laws text held query outcome other known is a (subst (λ (q : Query). AnswersQuery text held q other) (sym (same_query laws text query query2 is was)) b)
-one_answer laws text held outcome other known (inl (query, is, a)) (inr (why, span, none, f)) = absurd (no_reason laws text query why span is (reason none))
-one_answer laws text held outcome other known (inr (why, span, none, e)) (inl (query, was, b)) = absurd (no_reason laws text query why span was (reason none))
-one_answer laws text held outcome other known (inr (why, span, none, e)) (inr (how, place, also, f)) =
+one_answer : (laws : Laws) (folder : Option (List ℕ)) (format : Format) (text : List ℕ) (held : Held) (outcome other : Outcome) → TextReadsKnown text held → IsAnswer folder format text held outcome
+    → IsAnswer folder format text held other → outcome ≡ other
+one_answer laws folder format text held outcome other known (inl (query, is, a)) (inl (query2, was, b)) =
+    same_answer laws folder format text held query outcome other known is a (subst (λ (q : Query). AnswersQuery folder format text held q other) (sym (same_query laws text query query2 is was)) b)
+one_answer laws folder format text held outcome other known (inl (query, is, a)) (inr (why, span, none, f)) = absurd (no_reason laws text query why span is (reason none))
+one_answer laws folder format text held outcome other known (inr (why, span, none, e)) (inl (query, was, b)) = absurd (no_reason laws text query why span was (reason none))
+one_answer laws folder format text held outcome other known (inr (why, span, none, e)) (inr (how, place, also, f)) =
     let same = one_reason laws text why how span place (reason none) (reason also) in
     e ∙ ap (λ (r : Refusal). refused text r span) same.0 ∙ ap (refused text how) same.1 ∙ sym f
 
+-- what is asked has one outcome
+one_request : (laws : Laws) (folder : Option (List ℕ)) (format : Format) (page_size : ℕ) (request : Request) (held : Held) (outcome other : Outcome)
+    → OptionsReadKnown (Some (record { folder = folder; page_size = page_size; format = format; request = request })) held
+    → AnswersRequest folder format request held outcome → AnswersRequest folder format request held other → outcome ≡ other
+one_request laws folder format page_size (AskQuery text) (Some held) outcome other known a b = one_answer laws folder format text (Some held) outcome other tt a b
+one_request laws folder format page_size (AskQuery text) None outcome other known a b = one_answer laws folder format text None outcome other known a b
+one_request laws folder format page_size (Generate seed rows) held outcome other known a b = a ∙ sym b
+
+one_for_options : (laws : Laws) (options : Option Options) (held : Held) (outcome other : Outcome) → OptionsReadKnown options held → AnswersOptions options held outcome → AnswersOptions options held other → outcome ≡ other
+one_for_options laws None held outcome other known a b = a ∙ sym b
+one_for_options laws (Some options) held outcome other known a b = one_request laws options.folder options.format options.page_size options.request held outcome other known a b
+
 pub one_outcome : (laws : Laws) (words : List (List ℕ)) (held : Held) (outcome other : Outcome) → ReadsKnown words held → IsOutcome words held outcome → IsOutcome words held other → outcome ≡ other
-one_outcome laws [] held outcome other known e f = e ∙ sym f
-one_outcome laws (text ∷ []) held outcome other known a b = one_answer laws text held outcome other known a b
-one_outcome laws (first ∷ second ∷ words) held outcome other known e f = e ∙ sym f
+one_outcome laws words held outcome other known a b = one_for_options laws (options_of words) held outcome other known a b

@@ -16,7 +16,7 @@ use Rattle.plan_semantics.specs.WellFormed.{IsTable, AreTables}
 use Rattle.plan_rows.specs.Held.{tables_held}
 use Rattle.ndjson_load.specs.declared.column.MappedColumn.{MappedColumn}
 use Rattle.ndjson_load.specs.Shapes.{is_of_kind, IsLoadable, IsRowOf}
-use Rattle.table_files.specs.declared.stop.TableSource.{TableSource}
+use Rattle.table_files.specs.declared.tables.FoundTable.{FoundTable}
 use Rattle.table_files.specs.Catalog.{Rows}
 use Rattle.table_files.specs.Catalogs.{catalog_of, columns_of, shape_of}
 use Rattle.table_files.specs.Shapes.{IsTableOf}
@@ -60,20 +60,20 @@ row_kinds [] (cell ∷ row) is = absurd is
 row_kinds (mapped ∷ columns) [] is = absurd is
 row_kinds (mapped ∷ columns) (cell ∷ row) is = (cell_kind mapped.column.kind cell is.0, row_kinds columns row is.1)
 
-abbrev LoadsAll : TableSource → Type 0
+abbrev LoadsAll : FoundTable → Type 0
 LoadsAll source = All IsLoadable source.columns
 
-table_kinds : (source : TableSource) (rows : Rows) → LoadsAll source → IsTableOf source rows → IsTable (record { shape = shape_of source; rows = rows })
+table_kinds : (source : FoundTable) (rows : Rows) → LoadsAll source → IsTableOf source rows → IsTable (record { shape = shape_of source; rows = rows })
 table_kinds source rows loadable is =
     All-weaker (IsRowOf source.columns) (λ (row : List (List Value)). AllZip HasKindOf (columns_of source.columns) row) (λ row. row_kinds source.columns row) rows (is.kinds loadable)
 
-shapes_same : (sources : List TableSource) (tables : List Rows) → AllZip IsTableOf sources tables → (catalog_of sources).tables ≡ catalog_tables (tables_held (catalog_of sources) tables)
+shapes_same : (sources : List FoundTable) (tables : List Rows) → AllZip IsTableOf sources tables → (catalog_of sources).tables ≡ catalog_tables (tables_held (catalog_of sources) tables)
 shapes_same [] [] all = refl
 shapes_same [] (rows ∷ tables) all = absurd all
 shapes_same (source ∷ sources) [] all = absurd all
 shapes_same (source ∷ sources) (rows ∷ tables) all = ap (λ shapes. shape_of source ∷ shapes) (shapes_same sources tables all.1)
 
-held_kinds : (sources : List TableSource) (tables : List Rows) → All LoadsAll sources → AllZip IsTableOf sources tables → All IsTable (tables_held (catalog_of sources) tables)
+held_kinds : (sources : List FoundTable) (tables : List Rows) → All LoadsAll sources → AllZip IsTableOf sources tables → All IsTable (tables_held (catalog_of sources) tables)
 held_kinds [] [] loadable all = All-nil IsTable
 held_kinds [] (rows ∷ tables) loadable all = absurd all
 held_kinds (source ∷ sources) [] loadable all = absurd all
@@ -81,7 +81,7 @@ held_kinds (source ∷ sources) (rows ∷ tables) loadable all =
     All-cons IsTable (record { shape = shape_of source; rows = rows }) (tables_held (catalog_of sources) tables)
     (table_kinds source rows (All-head LoadsAll source sources loadable) all.0) (held_kinds sources tables (All-tail LoadsAll source sources loadable) all.1)
 
-pub are_tables : (catalog : Catalog) (sources : List TableSource) (tables slice : List Rows) → catalog ≡ catalog_of sources → slice ≡ tables → All (λ (source : TableSource). All IsLoadable source.columns) sources
+pub are_tables : (catalog : Catalog) (sources : List FoundTable) (tables slice : List Rows) → catalog ≡ catalog_of sources → slice ≡ tables → All (λ (source : FoundTable). All IsLoadable source.columns) sources
     → AllZip IsTableOf sources tables → AreTables catalog (tables_held catalog slice)
 are_tables catalog sources tables slice is same loadable all =
     subst (λ (c : Catalog). AreTables c (tables_held c slice)) (sym is)

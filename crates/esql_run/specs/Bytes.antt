@@ -12,10 +12,14 @@ pub record Outcome : Type 0 where
   pub out : List ℕ
   pub err : List ℕ
 
+-- the error stream has one line, and the output nothing
+abbrev pub one_line : Status → List ℕ → Outcome
+one_line status line = record { status = status; out = []; err = line }
+
 -- the refusal of a part of the text
 abbrev pub refused : List ℕ → Refusal → Span → Outcome
-refused text refusal span = record { status = Refused; out = []; err = refusal_line text refusal span }
+refused text refusal span = one_line Refused (refusal_line text refusal span)
 
 -- a file is bad, as a message says that names it
 abbrev pub bad_file : List ℕ → Outcome
-bad_file message = record { status = BadData; out = []; err = bad_data_line message }
+bad_file message = one_line BadData (bad_data_line message)

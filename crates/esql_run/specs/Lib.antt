@@ -5,6 +5,7 @@ pub mod Codes
 pub mod Made
 pub mod Outcome
 pub mod Rooms
+pub mod Shown
 pub mod Stopped
 pub mod Tables
 pub mod Writing

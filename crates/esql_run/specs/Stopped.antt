@@ -4,8 +4,7 @@ use Rattle.esql_io.specs.Files.{Held}
 use Rattle.esql_io.specs.Calls.{NoneFailed, OneFailed}
 use Rattle.esql_types.specs.Spans.{SpanFits}
 use Rattle.table_files.specs.declared.stop.Stop.{Stop}
-use Rattle.table_files.specs.declared.stop.Stop.TheVariants.{UnknownTable, BadData, ReadFault as StoppedByFault, Memory as StoppedByMemory}
-use Rattle.table_files.specs.Catalog.{unknown, bad}
+use Rattle.table_files.specs.declared.stop.Stop.TheVariants.{Refused as StoppedByRefusal, BadData as StoppedByFile, ReadFault as StoppedByFault, Memory as StoppedByMemory}
 use Rattle.expression_analysis.specs.declared.error.AnalyzeError.{AnalyzeError}
 use Rattle.expression_analysis.specs.declared.error.AnalyzeError.TheVariants.{Broken, PatternRoom as StoppedByRoom, Memory as LackedMemory}
 use Rattle.answer_text.specs.declared.refusals.Refusal.TheVariants as refusal
@@ -13,9 +12,10 @@ use Rattle.answer_text.specs.Refusals.{refusal_line}
 use Rattle.esql_run.specs.declared.rendered.Rendered.{Rendered}
 use Rattle.esql_run.specs.declared.rendered.Unanswered.{Unanswered}
 use Rattle.esql_run.specs.declared.rendered.Unanswered.TheVariants.{ReadFault, PatternRoom, Memory}
-use Rattle.esql_run.specs.Bytes.{refused}
+use Rattle.esql_run.specs.declared.status.Status.TheVariants.{Refused, BadData}
+use Rattle.esql_run.specs.Bytes.{one_line, refused}
 use Rattle.esql_run.specs.Made.{outcome_made}
-use Rattle.esql_run.specs.Tables.{halted, refusal_of}
+use Rattle.esql_run.specs.Tables.{refusal_of}
 
 -- a call failed exactly where ReadFault names its file, which is one that was asked for; nothing is said where memory was
 -- refused
@@ -33,23 +33,16 @@ MadeToAnswer count IsRoom (Err (ReadFault file)) old new = count new ≡ count o
 MadeToAnswer count IsRoom (Err (PatternRoom line)) old new = IsRoom old new line
 MadeToAnswer count IsRoom (Err (Memory error)) old new = Unit {0}
 
--- the answer to a stop is its refusal or the line on its file; a failed call and want of memory are handed on
-abbrev pub IsStopped : List ℕ → Stop → Result Rendered Unanswered → Type 0
-IsStopped text (UnknownTable span) (Ok answer) = outcome_made answer ≡ halted text (unknown span)
-IsStopped text (BadData message) (Ok answer) = outcome_made answer ≡ halted text (bad message)
-IsStopped text (StoppedByFault file) (Ok answer) = ⊥
-IsStopped text (StoppedByMemory error) (Ok answer) = ⊥
-IsStopped text (StoppedByFault file) (Err (ReadFault named)) = named ≡ file
-IsStopped text stop (Err (ReadFault named)) = ⊥
-IsStopped text stop (Err (PatternRoom line)) = ⊥
-IsStopped text stop (Err (Memory error)) = Unit {0}
-
--- the place that a stop names is a part of the text
-abbrev pub StopFits : List ℕ → Stop → Type 0
-StopFits text (UnknownTable span) = SpanFits text span
-StopFits text (BadData message) = Unit {0}
-StopFits text (StoppedByFault file) = Unit {0}
-StopFits text (StoppedByMemory error) = Unit {0}
+-- the answer to a stop is its line; a failed call and want of memory are handed on
+abbrev pub IsStopped : Stop → Result Rendered Unanswered → Type 0
+IsStopped (StoppedByRefusal line) (Ok answer) = outcome_made answer ≡ one_line Refused line
+IsStopped (StoppedByFile line) (Ok answer) = outcome_made answer ≡ one_line BadData line
+IsStopped (StoppedByFault file) (Ok answer) = ⊥
+IsStopped (StoppedByMemory error) (Ok answer) = ⊥
+IsStopped (StoppedByFault file) (Err (ReadFault named)) = named ≡ file
+IsStopped stop (Err (ReadFault named)) = ⊥
+IsStopped stop (Err (PatternRoom line)) = ⊥
+IsStopped stop (Err (Memory error)) = Unit {0}
 
 -- the answer to a broken rule is its refusal; at a pattern that is too large there is the line that says so, and want of memory
 -- is handed on

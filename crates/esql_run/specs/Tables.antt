@@ -1,18 +1,15 @@
 -- What a query of which each command is built is answered with, over the tables that it names.
-use Rattle.std.specs.Prelude.{◌≡◌, ℕ, Bool, not, List, filter, map, Some, Ok, Err}
+use Rattle.std.specs.Prelude.{◌≡◌, ℕ, List, map, Option, Some, Ok, Err}
 use Rattle.esql_io.specs.Files.{Held}
 use Rattle.esql_types.specs.declared.names.Column.{Column}
-use Rattle.esql_ast.specs.declared.query.NameAt.{NameAt}
 use Rattle.esql_ast.specs.declared.query.Query.{Query}
-use Rattle.esql_ast.specs.declared.uses.SourceUse.{SourceUse}
 use Rattle.esql_ast.specs.Nodes.{warned_nodes_of}
-use Rattle.esql_ast.specs.Uses.{source_names}
 use Rattle.ndjson_load.specs.Over.{Over}
 use Rattle.table_files.specs.Asked.{AskedToFind, AskedToLoad}
-use Rattle.table_files.specs.declared.stop.TableSource.{TableSource}
+use Rattle.table_files.specs.declared.tables.FoundTable.{FoundTable}
 use Rattle.table_files.specs.Catalog.{Rows, Halt, unknown, bad, Gathers, Loads}
 use Rattle.table_files.specs.Catalogs.{catalog_of}
-use Rattle.table_files.specs.Uses.{used_names}
+use Rattle.table_files.specs.Uses.{table_names}
 use Rattle.plan_semantics.specs.Tables.{TableHeld}
 use Rattle.plan_rows.specs.Held.{tables_held}
 use Rattle.row_semantics.specs.declared.rule.NameRule.{NameRule}
@@ -23,17 +20,11 @@ use Rattle.query_semantics.specs.Meaning.{meaning_of}
 use Rattle.query_semantics.specs.Shapes.{shape_of}
 use Rattle.answer_text.specs.declared.refusals.Refusal.{Refusal}
 use Rattle.answer_text.specs.declared.refusals.Refusal.TheVariants as refusal
-use Rattle.answer_text.specs.Txt.{shown_txt}
 use Rattle.answer_text.specs.Warnings.{warned}
+use Rattle.esql_words.specs.declared.options.Format.{Format}
 use Rattle.esql_run.specs.Bytes.{Outcome, refused, bad_file}
+use Rattle.esql_run.specs.Shown.{shown}
 use Rattle.esql_run.specs.declared.status.Status.TheVariants.{Done}
-
-abbrev pub is_table : SourceUse → Bool
-is_table use_ = not use_.policy
-
--- the names of the tables that a query uses, each at its first place, in written order
-abbrev pub table_names : Query → List NameAt
-table_names query = used_names (filter is_table (source_names query))
 
 -- a name that is no table's is refused where it stands, and a file that is bad is named
 abbrev pub halted : List ℕ → Halt → Outcome
@@ -57,32 +48,32 @@ refusal_of rule.BadGrok = refusal.BadGrok
 refusal_of rule.BadRegex = refusal.BadRegex
 refusal_of rule.EmptyResultColumns = refusal.EmptyResultColumns
 
--- the table that the query means over tables, and its warnings
-abbrev pub meant : List ℕ → Query → List Column → List TableHeld → Outcome
-meant text query columns tables = record {
+-- the table that the query means over tables, in a format, and its warnings
+abbrev pub meant : Format → List ℕ → Query → List Column → List TableHeld → Outcome
+meant format text query columns tables = record {
   status = Done;
-  out = shown_txt columns (map cells_of (meaning_of text tables query).rows);
+  out = shown format columns (map cells_of (meaning_of text tables query).rows);
   err = warned text (warned_nodes_of query) (meaning_of text tables query).failures;
 }
 
--- The tables are found by their names; then the query is judged by their columns; then their rows are read, and it is answered with
--- what it means over them.
-pub data IsTablesOutcome (held : Held) (text : List ℕ) (query : Query) : Outcome → Type 0 where
-  not_found : (halt : Halt) → Gathers held 0 (table_names query) (Err halt) → IsTablesOutcome held text query (halted text halt)
-  broken : (sources : List TableSource) (first : Broken) → Gathers held 0 (table_names query) (Ok sources) → shape_of text (catalog_of sources) query ≡ Err first
-      → IsTablesOutcome held text query (refused text (refusal_of first.rule) first.span)
-  not_loaded : (sources : List TableSource) (columns : List Column) (halt : Halt) → Gathers held 0 (table_names query) (Ok sources)
-      → shape_of text (catalog_of sources) query ≡ Ok columns → Loads held sources (Err halt) → IsTablesOutcome held text query (halted text halt)
-  loaded : (sources : List TableSource) (columns : List Column) (tables : List Rows) → Gathers held 0 (table_names query) (Ok sources)
-      → shape_of text (catalog_of sources) query ≡ Ok columns → Loads held sources (Ok tables)
-      → IsTablesOutcome held text query (meant text query columns (tables_held (catalog_of sources) tables))
+-- The tables are found by their names, in the folder where one is named; then the query is judged by their columns; then their rows are
+-- read, and it is answered with what it means over them, in a format.
+pub data IsTablesOutcome (folder : Option (List ℕ)) (format : Format) (held : Held) (text : List ℕ) (query : Query) : Outcome → Type 0 where
+  not_found : (halt : Halt) → Gathers folder held 0 (table_names query) (Err halt) → IsTablesOutcome folder format held text query (halted text halt)
+  broken : (tables : List FoundTable) (first : Broken) → Gathers folder held 0 (table_names query) (Ok tables) → shape_of text (catalog_of tables) query ≡ Err first
+      → IsTablesOutcome folder format held text query (refused text (refusal_of first.rule) first.span)
+  not_loaded : (tables : List FoundTable) (columns : List Column) (halt : Halt) → Gathers folder held 0 (table_names query) (Ok tables)
+      → shape_of text (catalog_of tables) query ≡ Ok columns → Loads folder held tables (Err halt) → IsTablesOutcome folder format held text query (halted text halt)
+  loaded : (tables : List FoundTable) (columns : List Column) (reads : List Rows) → Gathers folder held 0 (table_names query) (Ok tables)
+      → shape_of text (catalog_of tables) query ≡ Ok columns → Loads folder held tables (Ok reads)
+      → IsTablesOutcome folder format held text query (meant format text query columns (tables_held (catalog_of tables) reads))
 
 -- the answer over what the files hold, and over some contents where they do not tell it
-abbrev pub AnswersTables : List ℕ → Held → Query → Outcome → Type 0
-AnswersTables text held query outcome = Over held (λ bytes_of. IsTablesOutcome (Some bytes_of) text query outcome)
+abbrev pub AnswersTables : Option (List ℕ) → Format → List ℕ → Held → Query → Outcome → Type 0
+AnswersTables folder format text held query outcome = Over held (λ bytes_of. IsTablesOutcome folder format (Some bytes_of) text query outcome)
 
 -- The files that are asked for: those with which the tables are found, and, where the query breaks no rule, those of their rows.
-pub data AskedByTables (held : Held) (text : List ℕ) (query : Query) : List ℕ → Type 0 where
-  to_find : (file : List ℕ) → AskedToFind held 0 (table_names query) file → AskedByTables held text query file
-  to_load : (sources : List TableSource) (columns : List Column) (file : List ℕ) → Gathers held 0 (table_names query) (Ok sources)
-      → shape_of text (catalog_of sources) query ≡ Ok columns → AskedToLoad held sources file → AskedByTables held text query file
+pub data AskedByTables (folder : Option (List ℕ)) (held : Held) (text : List ℕ) (query : Query) : List ℕ → Type 0 where
+  to_find : (file : List ℕ) → AskedToFind folder held 0 (table_names query) file → AskedByTables folder held text query file
+  to_load : (tables : List FoundTable) (columns : List Column) (file : List ℕ) → Gathers folder held 0 (table_names query) (Ok tables)
+      → shape_of text (catalog_of tables) query ≡ Ok columns → AskedToLoad folder held tables file → AskedByTables folder held text query file

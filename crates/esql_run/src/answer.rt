@@ -1,11 +1,12 @@
-ghost use Rattle.std.specs.Prelude.{◌≡◌, ◌≤◌, map, IfOk};
+//! The answer to the words of the command line.
+ghost use Rattle.std.specs.Prelude.{◌≡◌, ◌≤◌, map, Some, IfOk};
 ghost use Rattle.std.specs.String.{string_bytes};
 ghost use Rattle.esql_ast.specs.Fits.{QueryFits};
 ghost use Rattle.esql_ast.specs.Laws.{IsNumbered};
 ghost use Rattle.esql_run.specs.Answers.{IsTold};
 ghost use Rattle.esql_run.specs.Made.{outcome_made};
-ghost use Rattle.esql_run.specs.Outcome.{IsOutcome, IsAnswer, AnswersQuery, AsksForQuery, IsFileFor, AsksFile, wrong_words};
-ghost use Rattle.esql_run.specs.Rooms.{IsRoomLine, IsRoomIn, IsRoomOf};
+ghost use Rattle.esql_run.specs.Outcome.{AnswersOptions, AnswersQuery, AsksFile, AsksForQuery, IsAnswer, IsFileFor, IsOutcome, OptionsAskFile, wrong_words};
+ghost use Rattle.esql_run.specs.Rooms.{IsRoomForOptions, IsRoomIn, IsRoomLine, IsRoomOf};
 ghost use Rattle.esql_run.specs.Stopped.{CalledToAnswer, MadeToAnswer};
 
 use crate::Status;
@@ -17,6 +18,7 @@ use esql_answer::{QueryError, read_query};
 use esql_ast::Query;
 use esql_io::Files;
 use esql_types::{Maker, Text};
+use esql_words::{Options, Request, WordsError, read_words};
 use std::alloc::{AllocError, Global};
 
 /// The answer to the words of the command line.
@@ -31,10 +33,11 @@ pub(crate) fn answer<F: Files, M: Maker>(
     ensures called { CalledToAnswer F.holds F.faults F.failed (AsksFile (map string_bytes words.now) (F.holds files.old)) result files.old files.new }
     ensures made { MadeToAnswer M.refused (IsRoomLine M.refused M.last (map string_bytes words.now) (F.holds files.old)) result maker.old maker.new }
 {
-    if words.len() != 1 {
-        return Ok(wrong_words(alloc)?);
+    match read_words(alloc, words) {
+        Ok(options) => answer_options(alloc, &options, files, maker),
+        Err(WordsError::Usage) => Ok(wrong_words(alloc)?),
+        Err(WordsError::Memory(error)) => Err(Unanswered::Memory(error)),
     }
-    answer_text(alloc, words[0].as_str(), files, maker)
 }
 
 fn wrong_words(alloc: Global) -> Result<Rendered, AllocError>
@@ -47,19 +50,38 @@ fn wrong_words(alloc: Global) -> Result<Rendered, AllocError>
     })
 }
 
+/// The answer to what is asked. A table that is to be made gets the usage so far.
+fn answer_options<F: Files, M: Maker>(
+    alloc: Global,
+    options: &Options,
+    files: &mut F,
+    maker: &mut M,
+) -> Result<Rendered, Unanswered>
+    ensures told { IfOk result (λ answer. AnswersOptions (Some options.now) (F.holds files.old) (outcome_made answer)) }
+    ensures status { IfOk result (λ answer. IsTold answer.status) }
+    ensures called { CalledToAnswer F.holds F.faults F.failed (OptionsAskFile (Some options.now) (F.holds files.old)) result files.old files.new }
+    ensures made { MadeToAnswer M.refused (IsRoomForOptions M.refused M.last (Some options.now) (F.holds files.old)) result maker.old maker.new }
+{
+    match &options.request {
+        Request::Query { text } => answer_text(alloc, options, text.as_str(), files, maker),
+        Request::Generate { .. } => Ok(wrong_words(alloc)?),
+    }
+}
+
 fn answer_text<F: Files, M: Maker>(
     alloc: Global,
+    options: &Options,
     text: &str,
     files: &mut F,
     maker: &mut M,
 ) -> Result<Rendered, Unanswered>
-    ensures told { IfOk result (λ answer. IsAnswer text.now (F.holds files.old) (outcome_made answer)) }
+    ensures told { IfOk result (λ answer. IsAnswer options.now.folder options.now.format text.now (F.holds files.old) (outcome_made answer)) }
     ensures status { IfOk result (λ answer. IsTold answer.status) }
-    ensures called { CalledToAnswer F.holds F.faults F.failed (IsFileFor text.now (F.holds files.old)) result files.old files.new }
-    ensures made { MadeToAnswer M.refused (IsRoomIn M.refused M.last text.now (F.holds files.old)) result maker.old maker.new }
+    ensures called { CalledToAnswer F.holds F.faults F.failed (IsFileFor options.now.folder text.now (F.holds files.old)) result files.old files.new }
+    ensures made { MadeToAnswer M.refused (IsRoomIn M.refused M.last options.now.folder text.now (F.holds files.old)) result maker.old maker.new }
 {
     match read_query(alloc, text) {
-        Ok(query) => answer_query(alloc, text, &query, files, maker),
+        Ok(query) => answer_query(alloc, options, text, &query, files, maker),
         Err(QueryError::Refused { refusal, span }) => Ok(refuse(alloc, text, refusal, span)?),
         Err(QueryError::Memory(error)) => Err(Unanswered::Memory(error)),
     }
@@ -67,6 +89,7 @@ fn answer_text<F: Files, M: Maker>(
 
 fn answer_query<F: Files, M: Maker>(
     alloc: Global,
+    options: &Options,
     text: &str,
     query: &Query,
     files: &mut F,
@@ -75,13 +98,13 @@ fn answer_query<F: Files, M: Maker>(
     requires fits { QueryFits text.now query.now }
     requires numbered { IsNumbered query.now }
     requires few { query.now.nodes ≤ 65537 }
-    ensures told { IfOk result (λ answer. AnswersQuery text.now (F.holds files.old) query.now (outcome_made answer)) }
+    ensures told { IfOk result (λ answer. AnswersQuery options.now.folder options.now.format text.now (F.holds files.old) query.now (outcome_made answer)) }
     ensures status { IfOk result (λ answer. IsTold answer.status) }
-    ensures called { CalledToAnswer F.holds F.faults F.failed (AsksForQuery text.now (F.holds files.old) query.now) result files.old files.new }
-    ensures made { MadeToAnswer M.refused (IsRoomOf M.refused M.last text.now (F.holds files.old) query.now) result maker.old maker.new }
+    ensures called { CalledToAnswer F.holds F.faults F.failed (AsksForQuery options.now.folder text.now (F.holds files.old) query.now) result files.old files.new }
+    ensures made { MadeToAnswer M.refused (IsRoomOf M.refused M.last options.now.folder text.now (F.holds files.old) query.now) result maker.old maker.new }
 {
     match first_unbuilt(query) {
         Some(span) => Ok(refuse(alloc, text, Refusal::NotBuilt, span)?),
-        None => answer_tables(alloc, text, query, files, maker),
+        None => answer_tables(alloc, options, text, query, files, maker),
     }
 }

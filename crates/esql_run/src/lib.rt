@@ -1,6 +1,6 @@
 //! The top call: the words of the command line go in, and the bytes of an answer come out.
 //!
-//! Read its specs in this order: `Bytes`, `Built`, `Tables`, `Outcome`, `Rooms`, `Answers`.
+//! Read its specs in this order: `Bytes`, `Built`, `Shown`, `Tables`, `Outcome`, `Rooms`, `Answers`.
 #![tactic(auto)]
 
 mod answer;

@@ -1,10 +1,11 @@
 ghost use Rattle.std.specs.Prelude.{◌≡◌, ◌≤◌, ◌<◌, IfOk};
 ghost use Rattle.std.specs.Str.{IsCharBoundary};
-ghost use Rattle.esql_run.specs.Bytes.{refused, bad_file};
+ghost use Rattle.esql_run.specs.Bytes.{one_line, refused};
+ghost use Rattle.esql_run.specs.declared.status.Status.TheVariants.{BadData, Refused};
 ghost use Rattle.esql_run.specs.Made.{outcome_made};
 
 use crate::Status;
-use answer_text::{Refusal, bad_data_line, refusal_line};
+use answer_text::{Refusal, refusal_line};
 use esql_types::{Span, Text};
 use std::alloc::{AllocError, Global};
 
@@ -56,13 +57,24 @@ pub(crate) fn refuse(
     })
 }
 
-/// The answer where a file is bad, as a message says that names it.
-pub(crate) fn bad_file(alloc: Global, message: &str) -> Result<Rendered, AllocError>
-    ensures { IfOk result (λ answer. outcome_made answer ≡ bad_file message.now) }
+/// The refusal of a query, by the line that says it.
+pub(crate) fn refuse_by(alloc: Global, line: Text) -> Result<Rendered, AllocError>
+    ensures { IfOk result (λ answer. outcome_made answer ≡ one_line Refused line) }
+{
+    Ok(Rendered {
+        status: Status::Refused,
+        out: Text::from_str(alloc, "")?,
+        err: line,
+    })
+}
+
+/// The answer where a file is bad, by the line that names it.
+pub(crate) fn bad_file(alloc: Global, line: Text) -> Result<Rendered, AllocError>
+    ensures { IfOk result (λ answer. outcome_made answer ≡ one_line BadData line) }
 {
     Ok(Rendered {
         status: Status::BadData,
         out: Text::from_str(alloc, "")?,
-        err: bad_data_line(alloc, message)?,
+        err: line,
     })
 }

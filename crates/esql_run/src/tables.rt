@@ -1,13 +1,16 @@
 //! The answer over the tables that a query names.
-ghost use Rattle.std.specs.Prelude.{◌≡◌, ◌≤◌, Some, None, Ok, All, IfOk, IfErr};
-ghost use Rattle.esql_types.specs.Spans.{SpanFits};
+ghost use Rattle.std.specs.Prelude.{◌≡◌, ◌≤◌, Some, None, Ok, All, IfOk, IfErr, length};
+ghost use Rattle.std.specs.Option.{option_copied};
 ghost use Rattle.esql_ast.specs.Fits.{QueryFits};
 ghost use Rattle.esql_ast.specs.Laws.{IsNumbered};
 ghost use Rattle.ndjson_load.specs.Over.{Over};
 ghost use Rattle.ndjson_load.specs.Shapes.{IsLoadable};
+ghost use Rattle.table_files.specs.Answers.{IsGathered};
 ghost use Rattle.table_files.specs.Asked.{AskedToLoad};
 ghost use Rattle.table_files.specs.Catalog.{Gathers};
 ghost use Rattle.table_files.specs.Catalogs.{catalog_of};
+ghost use Rattle.table_files.specs.Found.{tables_of};
+ghost use Rattle.table_files.specs.Uses.{table_names};
 ghost use Rattle.plan_semantics.specs.Plans.{columns_of};
 ghost use Rattle.plan_semantics.specs.WellFormed.{AreTables};
 ghost use Rattle.plan_rows.specs.Held.{tables_held};
@@ -18,26 +21,30 @@ ghost use Rattle.esql_run.specs.Answers.{IsTold};
 ghost use Rattle.esql_run.specs.Built.{unbuilt_of};
 ghost use Rattle.esql_run.specs.Made.{outcome_made};
 ghost use Rattle.esql_run.specs.Rooms.{IsRoomOf};
-ghost use Rattle.esql_run.specs.Stopped.{CalledToAnswer, MadeToAnswer, IsStopped, StopFits, IsUnprepared, ErrorFits, IsNoRoom};
-ghost use Rattle.esql_run.specs.Tables.{IsTablesOutcome, AnswersTables, AskedByTables, table_names, meant, refusal_of};
+ghost use Rattle.esql_run.specs.Shown.{shown};
+ghost use Rattle.esql_run.specs.Stopped.{CalledToAnswer, MadeToAnswer, IsStopped, IsUnprepared, ErrorFits, IsNoRoom};
+ghost use Rattle.esql_run.specs.Tables.{IsTablesOutcome, AnswersTables, AskedByTables, meant, refusal_of};
 
 use crate::Status;
-use crate::rendered::{Rendered, Unanswered, bad_file, refuse};
+use crate::rendered::{Rendered, Unanswered, bad_file, refuse, refuse_by};
 use answer_text::{Refusal, refusal_line};
 use esql_answer::{
-    AnalyzeError, Answer, NameRule, Prepared, Stop, TableSource, answer, catalog_of, gather, load,
+    AnalyzeError, Answer, Gathered, NameRule, Prepared, Stop, answer, copy_catalog, gather, load,
     prepare,
 };
-use esql_ast::{NameAt, Query, SourceUse, source_names};
+use esql_ast::Query;
 use esql_io::Files;
-use esql_types::{Maker, Seq};
+use esql_types::{Cell, Column, Maker, Seq, Text};
+use esql_words::{Format, Options};
 use ndjson_load::Table;
 use std::alloc::{AllocError, Global};
-use table_out::txt;
+use table_files::{some_gathering, some_halt, some_loading};
+use table_out::{csv, json, txt};
 
 /// The answer to a query of which each command is built: its tables are found, then it is judged, then their rows are read.
 pub(crate) fn answer_tables<F: Files, M: Maker>(
     alloc: Global,
+    options: &Options,
     text: &str,
     query: &Query,
     files: &mut F,
@@ -47,50 +54,49 @@ pub(crate) fn answer_tables<F: Files, M: Maker>(
     requires numbered { IsNumbered query.now }
     requires few { query.now.nodes ≤ 65537 }
     requires built { unbuilt_of query.now ≡ None }
-    ensures told { IfOk result (λ answer. AnswersTables text.now (F.holds files.old) query.now (outcome_made answer)) }
+    ensures told { IfOk result (λ answer. AnswersTables options.now.folder options.now.format text.now (F.holds files.old) query.now (outcome_made answer)) }
     ensures status { IfOk result (λ answer. IsTold answer.status) }
-    ensures called { CalledToAnswer F.holds F.faults F.failed (AskedByTables (F.holds files.old) text.now query.now) result files.old files.new }
-    ensures made { MadeToAnswer M.refused (IsRoomOf M.refused M.last text.now (F.holds files.old) query.now) result maker.old maker.new }
+    ensures called { CalledToAnswer F.holds F.faults F.failed (AskedByTables options.now.folder (F.holds files.old) text.now query.now) result files.old files.new }
+    ensures made { MadeToAnswer M.refused (IsRoomOf M.refused M.last options.now.folder text.now (F.holds files.old) query.now) result maker.old maker.new }
 {
-    let names = table_names(alloc, query)?;
-    match gather(alloc, files, names.as_slice()) {
-        Ok(sources) => answer_sources(alloc, text, query, sources.as_slice(), files, maker),
-        Err(stop) => stopped(alloc, text, stop),
+    some_gathering();
+    some_loading();
+    some_halt();
+    match gather(alloc, text, query, folder_of(options), files) {
+        Ok(gathered) => answer_gathered(alloc, options, text, query, gathered, files, maker),
+        Err(stop) => stopped(alloc, stop),
     }
 }
 
-/// The names of the tables that a query uses, each at its first place.
-fn table_names(alloc: Global, query: &Query) -> Result<Seq<NameAt>, AllocError>
-    ensures { IfOk result (λ names. names ≡ table_names query.now) }
+/// The folder of the files, where one is named.
+fn folder_of(options: &Options) -> Option<&str>
+    ensures { option_copied result ≡ options.now.folder }
 {
-    let mut names = Seq::new(alloc);
-    for SourceUse { name, policy } in source_names(alloc, query)?.into_vec() {
-        if !policy {
-            names.push(name)?;
-        }
+    match &options.folder {
+        None => None,
+        Some(folder) => Some(folder.as_str()),
     }
-    Ok(names)
 }
 
-fn stopped(alloc: Global, text: &str, stop: Stop) -> Result<Rendered, Unanswered>
-    requires { StopFits text.now stop }
-    ensures stopped { IsStopped text.now stop result }
+fn stopped(alloc: Global, stop: Stop) -> Result<Rendered, Unanswered>
+    ensures stopped { IsStopped stop result }
     ensures status { IfOk result (λ answer. IsTold answer.status) }
 {
     match stop {
-        Stop::UnknownTable { span } => Ok(refuse(alloc, text, Refusal::UnknownTable, span)?),
-        Stop::BadData { message } => Ok(bad_file(alloc, message.as_str())?),
+        Stop::Refused { line } => Ok(refuse_by(alloc, line)?),
+        Stop::BadData { line } => Ok(bad_file(alloc, line)?),
         Stop::ReadFault { file } => Err(Unanswered::ReadFault { file }),
         Stop::Memory(error) => Err(Unanswered::Memory(error)),
     }
 }
 
 /// The answer to a query whose tables were found.
-fn answer_sources<F: Files, M: Maker>(
+fn answer_gathered<F: Files, M: Maker>(
     alloc: Global,
+    options: &Options,
     text: &str,
     query: &Query,
-    sources: &[TableSource],
+    gathered: Gathered,
     files: &mut F,
     maker: &mut M,
 ) -> Result<Rendered, Unanswered>
@@ -98,19 +104,18 @@ fn answer_sources<F: Files, M: Maker>(
     requires numbered { IsNumbered query.now }
     requires few { query.now.nodes ≤ 65537 }
     requires built { unbuilt_of query.now ≡ None }
-    requires gathered { Gathers (F.holds files.old) 0 (table_names query.now) (Ok sources.now) }
-    requires somewhere { Over (F.holds files.old) (λ bytes_of. Gathers (Some bytes_of) 0 (table_names query.now) (Ok sources.now)) }
-    requires catalog { IsCatalog (catalog_of sources.now) }
-    requires loadable { All (λ source. All IsLoadable source.columns) sources.now }
-    requires places { All (λ source. SpanFits text.now source.span) sources.now }
-    ensures told { IfOk result (λ answer. IsTablesOutcome (F.holds files.old) text.now query.now (outcome_made answer)) }
+    requires gathered { IsGathered options.now.folder (F.holds files.old) query.now gathered }
+    requires somewhere { Over (F.holds files.old) (λ bytes_of. Gathers options.now.folder (Some bytes_of) 0 (table_names query.now) (Ok (tables_of query.now gathered))) }
+    requires catalog { IsCatalog gathered.catalog }
+    requires loadable { All (λ table. All IsLoadable table.columns) (tables_of query.now gathered) }
+    ensures told { IfOk result (λ answer. IsTablesOutcome options.now.folder options.now.format (F.holds files.old) text.now query.now (outcome_made answer)) }
     ensures status { IfOk result (λ answer. IsTold answer.status) }
-    ensures called { CalledToAnswer F.holds F.faults F.failed (AskedByTables (F.holds files.old) text.now query.now) result files.old files.new }
-    ensures made { MadeToAnswer M.refused (IsRoomOf M.refused M.last text.now (F.holds files.old) query.now) result maker.old maker.new }
+    ensures called { CalledToAnswer F.holds F.faults F.failed (AskedByTables options.now.folder (F.holds files.old) text.now query.now) result files.old files.new }
+    ensures made { MadeToAnswer M.refused (IsRoomOf M.refused M.last options.now.folder text.now (F.holds files.old) query.now) result maker.old maker.new }
 {
-    let catalog = catalog_of(alloc, sources)?;
+    let catalog = copy_catalog(alloc, &gathered.catalog)?;
     match prepare(alloc, text, query, catalog, maker) {
-        Ok(prepared) => answer_prepared(alloc, text, query, sources, &prepared, files),
+        Ok(prepared) => answer_prepared(alloc, options, text, query, gathered, &prepared, files),
         Err(error) => unprepared(alloc, text, error),
     }
 }
@@ -153,33 +158,37 @@ fn refusal_of(rule: NameRule) -> Refusal
 /// The answer to a query that is prepared for its tables.
 fn answer_prepared<F: Files>(
     alloc: Global,
+    options: &Options,
     text: &str,
     query: &Query,
-    sources: &[TableSource],
+    gathered: Gathered,
     prepared: &Prepared,
     files: &mut F,
 ) -> Result<Rendered, Unanswered>
     requires fits { QueryFits text.now query.now }
-    requires gathered { Gathers (F.holds files.old) 0 (table_names query.now) (Ok sources.now) }
-    requires loadable { All (λ source. All IsLoadable source.columns) sources.now }
-    requires places { All (λ source. SpanFits text.now source.span) sources.now }
-    requires catalog { prepared.now.catalog ≡ catalog_of sources.now }
-    requires shape { shape_of text.now (catalog_of sources.now) query.now ≡ Ok (columns_of prepared.now.plan.output) }
+    requires gathered { IsGathered options.now.folder (F.holds files.old) query.now gathered }
+    requires loadable { All (λ table. All IsLoadable table.columns) (tables_of query.now gathered) }
+    requires catalog { prepared.now.catalog ≡ catalog_of (tables_of query.now gathered) }
+    requires shape { shape_of text.now (catalog_of (tables_of query.now gathered)) query.now ≡ Ok (columns_of prepared.now.plan.output) }
     requires agrees { MeansQuery text.now query.now prepared.now }
-    ensures told { IfOk result (λ answer. IsTablesOutcome (F.holds files.old) text.now query.now (outcome_made answer)) }
+    ensures told { IfOk result (λ answer. IsTablesOutcome options.now.folder options.now.format (F.holds files.old) text.now query.now (outcome_made answer)) }
     ensures status { IfOk result (λ answer. IsTold answer.status) }
-    ensures called { CalledToAnswer F.holds F.faults F.failed (AskedToLoad (F.holds files.old) sources.now) result files.old files.new }
+    ensures called { CalledToAnswer F.holds F.faults F.failed (AskedToLoad options.now.folder (F.holds files.old) (tables_of query.now gathered)) result files.old files.new }
     ensures room { IfErr result IsNoRoom }
 {
-    match load(alloc, files, sources) {
-        Ok(tables) => Ok(show(alloc, text, query, prepared, tables.as_slice())?),
-        Err(stop) => stopped(alloc, text, stop),
+    match load(alloc, text, query, folder_of(options), gathered, files) {
+        Ok(loaded) => {
+            let tables = loaded.tables.as_slice();
+            Ok(show(alloc, options.format, text, query, prepared, tables)?)
+        }
+        Err(stop) => stopped(alloc, stop),
     }
 }
 
-/// The table and the warnings of a query over its tables.
+/// The table in a format, and the warnings, of a query over its tables.
 fn show(
     alloc: Global,
+    format: Format,
     text: &str,
     query: &Query,
     prepared: &Prepared,
@@ -189,13 +198,29 @@ fn show(
     requires tables { AreTables prepared.now.catalog (tables_held prepared.now.catalog tables.now) }
     requires agrees { MeansQuery text.now query.now prepared.now }
     ensures told { IfOk result (λ answer. outcome_made answer
-        ≡ meant text.now query.now (columns_of prepared.now.plan.output) (tables_held prepared.now.catalog tables.now)) }
+        ≡ meant format text.now query.now (columns_of prepared.now.plan.output) (tables_held prepared.now.catalog tables.now)) }
     ensures status { IfOk result (λ answer. IsTold answer.status) }
 {
     let Answer { columns, rows, log } = answer(alloc, prepared, tables)?;
     Ok(Rendered {
         status: Status::Done,
-        out: txt(alloc, &columns, &rows)?,
+        out: shown(alloc, format, &columns, &rows)?,
         err: log.print(alloc, text, query)?,
     })
+}
+
+fn shown(
+    alloc: Global,
+    format: Format,
+    columns: &Seq<Column>,
+    rows: &Seq<Seq<Cell>>,
+) -> Result<Text, AllocError>
+    requires { All (λ row. length row ≡ length columns.now) rows.now }
+    ensures { IfOk result (λ text. text ≡ shown format columns.now rows.now) }
+{
+    match format {
+        Format::Txt => txt(alloc, columns, rows),
+        Format::Csv => csv(alloc, columns, rows),
+        Format::Json => json(alloc, columns, rows),
+    }
 }

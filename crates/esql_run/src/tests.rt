@@ -46,7 +46,8 @@ fn hold(
     })
 }
 
-/// A run over a table `t`, whose files are read in pieces of 16 bytes, over sinks that take 10 bytes at once.
+/// A run over tables `t`, of which one is in the folder `d`, whose files are read in pieces of 16 bytes, over sinks that take 10
+/// bytes at once.
 fn run_over(
     alloc: Global,
     words: &[&str],
@@ -60,6 +61,8 @@ fn run_over(
     let mut held = Seq::new(alloc);
     hold(&mut held, alloc, "t.mapping.json", MAPPING)?;
     hold(&mut held, alloc, "t.ndjson", rows)?;
+    hold(&mut held, alloc, "d/t.mapping.json", MAPPING)?;
+    hold(&mut held, alloc, "d/t.ndjson", "{\"a\":{\"b\":7}}")?;
     let mut files = MemoryFiles::new(held, 16, one(alloc, failing.read)?);
     let mut maker = CrateMaker::new(one(alloc, failing.built)?);
     let mut out = MemorySink::new(alloc, 10_000, 10, one(alloc, failing.write)?)?;
@@ -129,7 +132,7 @@ const CASES: [Case; 13] = [
         err: "line 1:20: no columns are left\n",
     },
     Case {
-        query: "FROM u | SORT a",
+        query: "FROM u | STATS a",
         status: Status::Refused,
         out: "",
         err: "line 1:10: command not built\n",
@@ -192,12 +195,56 @@ fn bad_rows_are_named_behind_broken_rules(rt: HostRuntime) -> Result<(), Fail> {
     Ok(())
 }
 
+/// Words and what is written for them.
+struct Words {
+    words: &'static [&'static str],
+    out: &'static str,
+}
+
+const JSON: &str =
+    "{\"columns\":[{\"name\":\"a\",\"type\":\"null\"},{\"name\":\"b\",\"type\":\"integer\"}],\"values\":[[null,[1,2]]]}\n";
+
+const WORDS: [Words; 3] = [
+    Words {
+        words: &["--format", "json", "ROW a = null, b = [1, 2]"],
+        out: JSON,
+    },
+    Words {
+        words: &["--data", "d", "FROM t", "--format=csv"],
+        out: "a.b\n7\n",
+    },
+    Words {
+        words: &["--page-size", "1", "--data=d", "FROM t"],
+        out: "a.b\n---\n7\n",
+    },
+];
+
+#[test]
+fn words_name_the_folder_and_the_format(rt: HostRuntime) -> Result<(), Fail> {
+    for case in &WORDS {
+        let (status, out, err) = run_over(rt.alloc(), case.words, ROWS, NONE)?;
+        assert_eq!(rt; status, Status::Done);
+        assert_eq!(rt; out.bytes(), case.out.as_bytes());
+        assert_eq!(rt; err.bytes(), b"".as_slice());
+    }
+    Ok(())
+}
+
+const WRONG: [&[&str]; 4] = [
+    &[],
+    &["--generate", "7,3"],
+    &["--format", "xml", "FROM t"],
+    &["--help"],
+];
+
 #[test]
 fn other_words_show_the_usage(rt: HostRuntime) -> Result<(), Fail> {
-    let (status, out, err) = run_over(rt.alloc(), &[], ROWS, NONE)?;
-    assert_eq!(rt; status.code(), 2);
-    assert_eq!(rt; out.bytes(), b"".as_slice());
-    assert!(rt; err.bytes().starts_with(b"usage: esql [--data DIR]"));
+    for words in &WRONG {
+        let (status, out, err) = run_over(rt.alloc(), words, ROWS, NONE)?;
+        assert_eq!(rt; status.code(), 2);
+        assert_eq!(rt; out.bytes(), b"".as_slice());
+        assert!(rt; err.bytes().starts_with(b"usage: esql [--data DIR]"));
+    }
     Ok(())
 }
 
