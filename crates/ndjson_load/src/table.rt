@@ -38,6 +38,13 @@ impl Model for Table {
 }
 
 impl Table {
+    /// The table of these rows.
+    pub fn from_rows(rows: Seq<Seq<Cell>>) -> Table
+        ensures { result ≡ rows }
+    {
+        Table { rows }
+    }
+
     /// How many rows the table has.
     pub fn rows(&self) -> u64
         ensures { result ≡ length self.now }
