@@ -1,4 +1,3 @@
-pub mod StableSorts
 pub mod KeyOrders
 pub mod NumberedRows
 pub mod KeptSteps

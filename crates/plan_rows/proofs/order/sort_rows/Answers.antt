@@ -4,9 +4,9 @@ use Rattle.std.specs.List.Sorted.{ties}
 use Rattle.std.proofs.lemmas.Fn.{always_returns_same}
 use Rattle.std.proofs.lemmas.List.Sorted.{ranks_by}
 use Rattle.esql_types.specs.declared.value.Value.{Value}
+use Rattle.page_ops.proofs.StableSorts.{stable_sort_once}
 use Rattle.plan_rows.specs.Kept.{order_of_kept}
 use Rattle.plan_rows.proofs.KeyOrders.{kept_total}
-use Rattle.plan_rows.proofs.StableSorts.{stable_sort_once}
 use Rattle.plan_rows.proofs.order.sort_rows.Goals as goal
 
 pub returns : goal.returns

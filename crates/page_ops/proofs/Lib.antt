@@ -1,0 +1,4 @@
+pub mod StableSorts
+pub mod KeyOrders
+pub mod Ranges
+pub mod PlaceTies
