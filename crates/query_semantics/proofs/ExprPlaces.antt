@@ -28,7 +28,7 @@ use Rattle.esql_plan.specs.declared.names.FunctionRow.{FunctionRow}
 use Rattle.esql_plan.specs.Names.{function_named, aggregate_named, cast_named}
 use Rattle.row_semantics.specs.declared.rule.NameRule.TheVariants as rule
 use Rattle.row_semantics.specs.Regulars.{Regular}
-use Rattle.row_semantics.specs.Scopes.{Broken, Standing, elsewhere, in_field, in_aggregate, Scope, column_named, within_aggregate}
+use Rattle.row_semantics.specs.Scopes.{Broken, Standing, elsewhere, in_field, Scope, column_named, within_aggregate}
 use Rattle.row_semantics.specs.Forms.{Part, Seen, constant, named, same, applied, aggregate, refused, seen, call_by, cast_by, list_in_kind, kind_of_list, constant_in, part_of_form, part_of, pattern_part}
 use Rattle.row_semantics.specs.Kinds.{Judged, judged, breaks, and_then, kinds_of_parts, kind_of_column, kind_of_applied, regular_in, regular_of, if_accepted, fitting, kind_of_aggregate, kind_of_standing, aggregate_fits, aggregate_kind, may_have_star, kind_or_rule}
 use Rattle.query_semantics.specs.Places.{BrokenFits}
@@ -120,7 +120,6 @@ standing_stands : (text : List ℕ) (standing : Standing) (called : AggFunction)
     → BrokenFits text (kind_of_standing standing called star parts span scope)
 standing_stands text elsewhere called star parts span scope stand fits = fits
 standing_stands text in_field called star parts span scope stand fits = aggregate_stands text called star parts span scope stand fits
-standing_stands text in_aggregate called star parts span scope stand fits = fits
 
 -- forms ---------------------------------------------------------------------------------------------------------------------
 

@@ -13,7 +13,7 @@ use Rattle.esql_plan.specs.Values.{NumberedRow, silent, value_of_typed}
 use Rattle.esql_plan.specs.Fits.{columns_read}
 use Rattle.esql_plan.proofs.Inductions.{typed_ind}
 use Rattle.esql_plan.proofs.TypedFolds.{value_of_column, columns_of_column}
-use Rattle.query_semantics.specs.Written.{column_of_form, column_of_typed}
+use Rattle.query_semantics.specs.Writings.{column_of_form, column_of_typed}
 
 abbrev form_of : TypedExpr-F (Option ColId) (Option ColId) → Option ColId
 form_of expr = expr.form

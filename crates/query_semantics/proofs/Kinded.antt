@@ -5,25 +5,28 @@ use Rattle.esql_types.specs.declared.places.Span.{Span}
 use Rattle.esql_types.specs.declared.names.Column.{Column}
 use Rattle.esql_types.specs.declared.names.NodeId.{NodeId}
 use Rattle.esql_types.specs.declared.value.Kind.{Kind}
+use Rattle.esql_types.specs.declared.value.Kind.TheVariants as kind
 use Rattle.esql_ast.specs.declared.expr.Expr.{Expr}
 use Rattle.esql_plan.specs.declared.function.Function.{Function}
 use Rattle.esql_plan.specs.declared.function.Function.TheVariants as function
+use Rattle.esql_plan.specs.declared.function.AggFunction.{AggFunction}
 use Rattle.esql_plan.specs.declared.plan.OutColumn.{OutColumn}
 use Rattle.esql_plan.specs.declared.typed.TypedExpr.{TypedExpr}
 use Rattle.esql_plan.specs.Signatures.{kind_of_call}
 use Rattle.plan_semantics.specs.Plans.{columns_of}
 use Rattle.row_semantics.specs.Forms.{Part, Seen, constant, named, same, applied, aggregate, refused, Reader, read_by, function_in_plan, arguments_in_plan}
 use Rattle.row_semantics.specs.Regulars.{Regular}
-use Rattle.row_semantics.specs.Scopes.{Broken, Scope, elsewhere, column_named}
-use Rattle.row_semantics.specs.Kinds.{Judged, and_then, kinds_of_parts, kind_of_column, kind_of_applied, kind_of_standing, fitting, if_accepted, judged, kind_or_rule}
-use Rattle.row_semantics.specs.Typed.{Visible, Typing, visible_named, typed_column, typed_parts, typing, typed_of}
+use Rattle.row_semantics.specs.declared.call.CallColumn.{CallColumn}
+use Rattle.row_semantics.specs.declared.rule.NameRule.TheVariants as rule
+use Rattle.row_semantics.specs.Scopes.{Broken, Standing, elsewhere, in_field, Scope, column_named, within_aggregate}
+use Rattle.row_semantics.specs.Kinds.{Judged, breaks, and_then, kinds_of_parts, kind_of_column, kind_of_applied, aggregate_fits, aggregate_kind, may_have_star, kind_of_argument, kind_of_aggregate, kind_of_standing, fitting, if_accepted, judged, kind_or_rule}
+use Rattle.row_semantics.specs.Typed.{Visible, Typing, visible_named, call_at, typed_column, typed_call, kind_of_called, typed_parts, typing, typed_of}
 use Rattle.query_semantics.proofs.Readings.{part_with, parts_with, seen_with, read_made}
 use Rattle.query_semantics.proofs.Valued.{function_with, arguments_with}
 
--- an expression stands outside STATS, over the columns that can be seen
-pub record StandsOver (visible : Visible) (scope : Scope) : Type 0 where
-  pub columns : scope.columns ≡ columns_of visible.columns
-  pub outside : scope.standing ≡ elsewhere
+-- an expression stands over the columns that can be seen
+abbrev pub StandsOver : Visible → Scope → Type 0
+StandsOver visible scope = scope.columns ≡ columns_of visible.columns
 
 -- the typed form of an expression and its kind, which is that of the typed form
 pub record Both : Type 0 where
@@ -117,23 +120,52 @@ applied_kinded node span function parts visible scope kind stands is whole free 
     ∙ (λ i. kind_of_call (sym (function_with judged_in function parts) i) (arguments_in_plan function found.value))
     ∙ accepted_is _ scope _ kind (fitting_is _ _ span _ kind found.next_is)
 
-pub outside_kinded : (node : NodeId) (span : Span) (seen : Seen Both) (visible : Visible) (scope : Scope) (kind : Kind) → StandsOver visible scope
+-- an aggregate call has the kind of the aggregate, whatever column stands for it
+call_kinded : (node : NodeId) (call : Option CallColumn) (kind : Kind) → (typed_call node kind call).kind ≡ kind
+call_kinded node (Some call) kind = refl
+call_kinded node None kind = refl
+
+argument_kinded : (function : AggFunction) (argument kind : Kind) (fits : Bool) (span : Span)
+    → cond fits (Ok (aggregate_kind function argument)) (breaks rule.BadKind span) ≡ Ok kind → aggregate_kind function argument ≡ kind
+argument_kinded function argument kind true span is = ok_is is
+argument_kinded function argument kind false span is = absurd cc
+
+star_kinded : (may : Bool) (found : Kind) (span : Span) → cond may (Ok kind.Long) (breaks rule.BadArguments span) ≡ Ok found → kind.Long ≡ found
+star_kinded true found span is = ok_is is
+star_kinded false found span is = absurd cc
+
+aggregate_kinded : (function : AggFunction) (star : Bool) (parts : List (Part Both)) (span : Span) (visible : Visible) (scope : Scope) (kind : Kind) → StandsOver visible scope
+    → kind_of_aggregate function star (parts_with judged_in parts) span scope ≡ Ok kind → kind_of_called function star (parts_with typing_in parts) visible ≡ kind
+aggregate_kinded function true parts span visible scope kind stands is = star_kinded (may_have_star function) kind span is
+aggregate_kinded function false [] span visible scope kind stands is = absurd cc
+aggregate_kinded function false (part ∷ []) span visible scope kind stands is =
+    let found = found_of (part.reading.judged (within_aggregate scope)) (λ argument. kind_of_argument function argument part.span) kind is in
+    ap (aggregate_kind function) (part.reading.is visible (within_aggregate scope) found.value stands found.is 0 0)
+    ∙ argument_kinded function found.value kind (aggregate_fits function found.value) part.span found.next_is
+aggregate_kinded function false (part ∷ next ∷ parts) span visible scope kind stands is = absurd cc
+
+standing_kinded : (standing : Standing) (function : AggFunction) (star : Bool) (parts : List (Part Both)) (span : Span) (visible : Visible) (scope : Scope) (kind : Kind) → StandsOver visible scope
+    → kind_of_standing standing function star (parts_with judged_in parts) span scope ≡ Ok kind → kind_of_called function star (parts_with typing_in parts) visible ≡ kind
+standing_kinded elsewhere function star parts span visible scope kind stands is = absurd cc
+standing_kinded in_field function star parts span visible scope kind stands is = aggregate_kinded function star parts span visible scope kind stands is
+
+pub seen_kinded : (node : NodeId) (span : Span) (seen : Seen Both) (visible : Visible) (scope : Scope) (kind : Kind) → StandsOver visible scope
     → judged node span (seen_with judged_in seen) scope ≡ Ok kind → (whole free : ℕ) → ((typing node span (seen_with typing_in seen)).at visible whole free).kind ≡ kind
-outside_kinded node span (constant values own) visible scope kind stands is whole free = ok_is is
-outside_kinded node span (named name) visible scope kind stands is whole free =
-    column_kinded node name span visible.columns kind (ap (λ (columns : List Column). kind_of_column (column_named columns name) span) (sym stands.columns) ∙ is)
-outside_kinded node span (same part) visible scope kind stands is whole free = part.reading.is visible scope kind stands is whole free
-outside_kinded node span (applied function parts) visible scope kind stands is whole free = applied_kinded node span function parts visible scope kind stands is whole free
-outside_kinded node span (aggregate function star parts) visible scope kind stands is whole free =
-    absurd (let here = ap (λ standing. kind_of_standing standing function star (parts_with judged_in parts) span scope) (sym stands.outside) ∙ is in cc)
-outside_kinded node span (refused parts rule at) visible scope kind stands is whole free =
+seen_kinded node span (constant values own) visible scope kind stands is whole free = ok_is is
+seen_kinded node span (named name) visible scope kind stands is whole free =
+    column_kinded node name span visible.columns kind (ap (λ (columns : List Column). kind_of_column (column_named columns name) span) (sym stands) ∙ is)
+seen_kinded node span (same part) visible scope kind stands is whole free = part.reading.is visible scope kind stands is whole free
+seen_kinded node span (applied function parts) visible scope kind stands is whole free = applied_kinded node span function parts visible scope kind stands is whole free
+seen_kinded node span (aggregate function star parts) visible scope kind stands is whole free =
+    call_kinded node (call_at visible.calls node) _ ∙ standing_kinded scope.standing function star parts span visible scope kind stands is
+seen_kinded node span (refused parts rule at) visible scope kind stands is whole free =
     let found = found_of (kinds_of_parts (parts_with judged_in parts) scope) _ kind is in absurd (let last = found.next_is in cc)
 
 abbrev pub both : Reader Both
 both node span seen = record {
   typing = typing node span (seen_with typing_in seen);
   judged = judged node span (seen_with judged_in seen);
-  is = outside_kinded node span seen;
+  is = seen_kinded node span seen;
 }
 
 -- the kind of the typed form is the kind of the expression

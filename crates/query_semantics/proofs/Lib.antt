@@ -1,3 +1,5 @@
+pub mod ExprInduction
+pub mod CallsOpened
 pub mod ExprPlaces
 pub mod ShapePlaces
 pub mod Readings
@@ -8,3 +10,7 @@ pub mod Distinct
 pub mod Named
 pub mod Ordered
 pub mod Inputs
+pub mod NamesFound
+pub mod CallsJudged
+pub mod SameGiven
+pub mod CallsWhole

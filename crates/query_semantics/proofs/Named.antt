@@ -19,7 +19,8 @@ use Rattle.row_semantics.specs.Rows.{Row, cell_at, put}
 use Rattle.row_semantics.specs.Columns.{names_of, put_column, column_as}
 use Rattle.row_semantics.specs.Typed.{visible_named}
 use Rattle.query_semantics.specs.Commands.{names_in, cells_of, kept_of_row, left_of_row, renamed_row, cell_as, with_named, expanded_at, expanded_row}
-use Rattle.query_semantics.specs.Written.{put_visible, visible_names, visible_as, column_at, renumbered, numbered_from}
+use Rattle.query_semantics.specs.Writings.{put_visible, visible_names, visible_as, column_at}
+use Rattle.query_semantics.specs.Written.{renumbered, numbered_from}
 use Rattle.query_semantics.specs.Named.{named_cell, named_row}
 use Rattle.query_semantics.proofs.Squares.{map_all, map_map, filter_square, at_places-map, renamed_by-map, All-at_places, All-renamed_by}
 

@@ -1,9 +1,10 @@
 -- The typed form of an expression has on a row of numbers the value that the expression has on the row of names.
-use Rattle.std.proofs.Common.{◌≡◌, ℕ, ◌+◌, true, false, cond, ◌==◌, List, [], ◌∷◌, map, length, Some, refl, ap, sym, ◌∙◌}
+use Rattle.std.proofs.Common.{◌≡◌, ℕ, ◌+◌, true, false, cond, ◌==◌, List, [], ◌∷◌, map, length, Some, None, refl, ap, sym, ◌∙◌}
 use Rattle.std.specs.Str.{bytes_eq}
 use Rattle.esql_types.specs.declared.places.Span.{Span}
 use Rattle.esql_types.specs.declared.names.NodeId.{NodeId}
 use Rattle.esql_ast.specs.declared.expr.Expr.{Expr}
+use Rattle.esql_types.specs.declared.value.Kind.{Kind}
 use Rattle.esql_plan.specs.declared.function.Function.{Function}
 use Rattle.esql_plan.specs.declared.function.Function.TheVariants as function
 use Rattle.esql_plan.specs.declared.plan.OutColumn.{OutColumn}
@@ -12,9 +13,10 @@ use Rattle.esql_plan.specs.Values.{Valued, NumberedRow, silent, applied as value
 use Rattle.esql_plan.proofs.TypedFolds.{value_of_constant, value_of_column, value_of_call}
 use Rattle.row_semantics.specs.Forms.{Part, Seen, constant, named, same, applied, aggregate, refused, Reader, read_by, function_in_plan, arguments_in_plan}
 use Rattle.row_semantics.specs.Rows.{cell_at}
-use Rattle.row_semantics.specs.Typed.{Visible, CallColumn, Typing, visible_named, call_at, typed_null, typed_column, typed_call, typed_parts, typing, typed_of}
+use Rattle.row_semantics.specs.declared.call.CallColumn.{CallColumn}
+use Rattle.row_semantics.specs.Typed.{Visible, Typing, visible_named, call_at, typed_null, typed_column, typed_call, typed_parts, typing, typed_of}
 use Rattle.row_semantics.specs.Meanings.{Given, cell_of_call, valued, value_on}
-use Rattle.query_semantics.specs.Commands.{value_in_row}
+use Rattle.query_semantics.specs.RowValues.{value_in_row}
 use Rattle.query_semantics.specs.Named.{named_row, call_cell, given_of}
 use Rattle.query_semantics.proofs.Readings.{part_with, parts_with, seen_with, read_made}
 
@@ -38,12 +40,12 @@ column_valued node name (column ∷ visible) row =
     elim (bytes_eq column.name name) as (λ same. value_of_typed (typed_column node (cond same (Some column) (visible_named visible name))) row ≡ silent (cond same (row column.id.0) (cell_at (named_row visible row) name)))
     [ true ↦ value_of_column (typed_column node (Some column)) row column.id refl | false ↦ column_valued node name visible row ]
 
-call_valued : (node : NodeId) (calls : List CallColumn) (row : NumberedRow)
-    → value_of_typed (typed_call node (call_at calls node)) row ≡ silent (cell_of_call (map (call_cell row) calls) node)
-call_valued node [] row = value_of_constant (typed_null node) row [] refl
-call_valued node (call ∷ calls) row =
-    elim (call.node.0 == node.0) as (λ same. value_of_typed (typed_call node (cond same (Some call) (call_at calls node))) row ≡ silent (cond same (row call.id.0) (cell_of_call (map (call_cell row) calls) node)))
-    [ true ↦ value_of_column (typed_call node (Some call)) row call.id refl | false ↦ call_valued node calls row ]
+call_valued : (node : NodeId) (kind : Kind) (calls : List CallColumn) (row : NumberedRow)
+    → value_of_typed (typed_call node kind (call_at calls node)) row ≡ silent (cell_of_call (map (call_cell row) calls) node)
+call_valued node kind [] row = value_of_constant (typed_call node kind None) row [] refl
+call_valued node kind (call ∷ calls) row =
+    elim (call.node.0 == node.0) as (λ same. value_of_typed (typed_call node kind (cond same (Some call) (call_at calls node))) row ≡ silent (cond same (row call.id.0) (cell_of_call (map (call_cell row) calls) node)))
+    [ true ↦ value_of_column (typed_call node kind (Some call)) row call.id refl | false ↦ call_valued node kind calls row ]
 
 -- a function is the same in the plan, whatever is read of its parts
 pub function_with : {A B : Type 0} (make : A → B) (function : Function) (parts : List (Part A)) → function_in_plan function (parts_with make parts) ≡ function_in_plan function parts
@@ -78,7 +80,7 @@ both_is node span (constant values kind) visible whole free row = value_of_const
 both_is node span (named name) visible whole free row = column_valued node name visible.columns row
 both_is node span (same part) visible whole free row = part.reading.is visible whole free row
 both_is node span (applied function parts) visible whole free row = applied_valued node span function parts visible whole free row
-both_is node span (aggregate function star parts) visible whole free row = call_valued node visible.calls row
+both_is node span (aggregate function star parts) visible whole free row = call_valued node _ visible.calls row
 both_is node span (refused parts rule at) visible whole free row = value_of_constant (typed_null node) row [] refl
 
 abbrev both : Reader Both

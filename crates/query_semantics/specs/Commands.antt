@@ -1,5 +1,5 @@
 -- What the commands of a query do to rows of names, and what fails on the way.
-use Rattle.std.specs.Prelude.{ℕ, Bool, List, [], ◌∷◌, ◌++◌, filter, map, take, if◌then◌else◌}
+use Rattle.std.specs.Prelude.{ℕ, List, [], ◌∷◌, ◌++◌, filter, map, take, if◌then◌else◌}
 use Rattle.std.specs.declared.cmp.Ordering.{Ordering}
 use Rattle.std.specs.declared.cmp.Ordering.TheVariants.{Equal}
 use Rattle.std.specs.List.{flat_map}
@@ -18,17 +18,13 @@ use Rattle.esql_ast.specs.declared.query.CommandKind.{CommandKind}
 use Rattle.esql_ast.specs.declared.query.CommandKind.TheVariants.{Filter, Eval, Keep, Drop, Rename, Sort, Limit, Expand, Stats, Dissect, Grok, Enrich, Join}
 use Rattle.esql_ast.specs.NameRules.{keep_places, drop_places, at_places, renamings, renamed_by}
 use Rattle.function_rules.specs.Lists.{sorted_by}
-use Rattle.esql_plan.specs.Values.{Valued}
 use Rattle.plan_semantics.specs.Orders.{order_of_cells}
-use Rattle.plan_semantics.specs.Steps.{is_true, failures_of_condition}
+use Rattle.plan_semantics.specs.Steps.{is_true}
 use Rattle.row_semantics.specs.declared.row.NamedCell.{NamedCell}
 use Rattle.row_semantics.specs.Rows.{Row, cell_at, put}
 use Rattle.row_semantics.specs.Fields.{name_of_field}
-use Rattle.row_semantics.specs.Meanings.{value_on}
-
--- the value of an expression on a row, outside STATS
-abbrev pub value_in_row : Expr → Row → Valued
-value_in_row expr row = value_on expr (record { row = row; calls = [] })
+use Rattle.query_semantics.specs.RowValues.{value_in_row, failures_of_expr, failures_of_rows}
+use Rattle.query_semantics.specs.Stats.{rows_of_stats, failures_of_stats}
 
 -- the names of a row's cells
 abbrev pub names_in : Row → List (List ℕ)
@@ -48,9 +44,6 @@ abbrev pub rows_of_fields : List ℕ → List Field → List Row → List Row
 rows_of_fields text [] rows = rows
 rows_of_fields text (field ∷ fields) rows = rows_of_fields text fields (map (row_with_field text field) rows)
 
-abbrev pub failures_of_expr : Expr → List Row → List Failure
-failures_of_expr expr rows = flat_map (λ row. (value_in_row expr row).failures) rows
-
 -- the failures of each field in turn, row after row
 abbrev pub failures_of_fields : List ℕ → List Field → List Row → List Failure
 failures_of_fields text [] rows = []
@@ -61,10 +54,6 @@ failures_of_fields text (field ∷ fields) rows = failures_of_expr field.expr ro
 -- the rows on which the condition is true
 abbrev pub rows_of_condition : Expr → List Row → List Row
 rows_of_condition condition rows = filter (λ row. is_true (value_in_row condition row).cell) rows
-
--- a condition of several values is a failure of the command's node
-abbrev pub failures_of_rows : NodeId → Expr → List Row → List Failure
-failures_of_rows node condition rows = flat_map (λ row. failures_of_condition node (value_in_row condition row)) rows
 
 -- KEEP, DROP, RENAME ------------------------------------------------------------------------------------------------------
 
@@ -123,7 +112,7 @@ rows_of_kind text (Rename pairs) rows = map (renamed_row pairs) rows
 rows_of_kind text (Sort keys) rows = rows_of_keys keys rows
 rows_of_kind text (Limit count) rows = take count rows
 rows_of_kind text (Expand column) rows = flat_map (expanded_row column.name) rows
-rows_of_kind text (Stats fields groups) rows = rows
+rows_of_kind text (Stats fields groups) rows = rows_of_stats text fields groups rows
 rows_of_kind text (Dissect input pattern separator) rows = rows
 rows_of_kind text (Grok input pattern) rows = rows
 rows_of_kind text (Enrich policy on fields) rows = rows
@@ -139,7 +128,7 @@ failures_of_kind text node (Rename pairs) rows = []
 failures_of_kind text node (Sort keys) rows = failures_of_keys keys rows
 failures_of_kind text node (Limit count) rows = []
 failures_of_kind text node (Expand column) rows = []
-failures_of_kind text node (Stats fields groups) rows = []
+failures_of_kind text node (Stats fields groups) rows = failures_of_stats fields groups rows
 failures_of_kind text node (Dissect input pattern separator) rows = []
 failures_of_kind text node (Grok input pattern) rows = []
 failures_of_kind text node (Enrich policy on fields) rows = []

@@ -1,4 +1,10 @@
+pub mod RowValues
+pub mod Calls
+pub mod Stats
+pub mod StatsShapes
 pub mod Shapes
+pub mod Writings
+pub mod WrittenStats
 pub mod Written
 pub mod Cuts
 pub mod Commands

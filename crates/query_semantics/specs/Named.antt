@@ -5,7 +5,8 @@ use Rattle.esql_plan.specs.Values.{NumberedRow}
 use Rattle.row_semantics.specs.declared.row.NamedCell.{NamedCell}
 use Rattle.row_semantics.specs.Rows.{Row}
 use Rattle.row_semantics.specs.Meanings.{CallCell, Given}
-use Rattle.row_semantics.specs.Typed.{CallColumn, Visible}
+use Rattle.row_semantics.specs.declared.call.CallColumn.{CallColumn}
+use Rattle.row_semantics.specs.Typed.{Visible}
 
 abbrev pub named_cell : NumberedRow → OutColumn → NamedCell
 named_cell row column = record { name = column.name; cell = row column.id.0 }

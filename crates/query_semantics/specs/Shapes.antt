@@ -1,7 +1,6 @@
 -- The columns after each command of a query, or the first rule that is broken, in the order in which the query is written.
-use Rattle.std.specs.Prelude.{ℕ, Bool, true, false, List, [], ◌∷◌, Option, Some, None, Result, Ok, Err, if◌then◌else◌}
+use Rattle.std.specs.Prelude.{ℕ, Bool, List, [], ◌∷◌, Option, Some, None, Result, Ok, Err, if◌then◌else◌}
 use Rattle.esql_types.specs.declared.places.Span.{Span}
-use Rattle.esql_types.specs.declared.value.Kind.{Kind}
 use Rattle.esql_types.specs.declared.value.Kind.TheVariants as kind
 use Rattle.esql_types.specs.declared.names.Column.{Column}
 use Rattle.esql_ast.specs.declared.expr.Expr.{Expr}
@@ -26,6 +25,7 @@ use Rattle.row_semantics.specs.Kinds.{breaks, and_then, kind_of_column, kind_or_
 use Rattle.row_semantics.specs.Fields.{name_of_field}
 use Rattle.row_semantics.specs.Columns.{names_of, put_column, column_as}
 use Rattle.row_semantics.specs.Sources.{columns_of_tables}
+use Rattle.query_semantics.specs.StatsShapes.{shape_of_stats}
 
 -- columns, or a rule that is broken
 abbrev pub Shape : Type 0
@@ -111,7 +111,7 @@ shape_of_kind context (Rename pairs) columns = shape_of_rename pairs columns
 shape_of_kind context (Sort keys) columns = shape_of_keys context keys columns
 shape_of_kind context (Limit count) columns = Ok columns
 shape_of_kind context (Expand column) columns = shape_of_expand column columns
-shape_of_kind context (Stats fields groups) columns = Ok columns
+shape_of_kind context (Stats fields groups) columns = shape_of_stats context.text context.accepts fields groups columns
 shape_of_kind context (Dissect input pattern separator) columns = Ok columns
 shape_of_kind context (Grok input pattern) columns = Ok columns
 shape_of_kind context (Enrich policy on fields) columns = Ok columns

@@ -14,7 +14,7 @@ use Rattle.row_semantics.specs.declared.rule.NameRule.{NameRule}
 use Rattle.row_semantics.specs.declared.rule.NameRule.TheVariants as rule
 use Rattle.row_semantics.specs.Forms.{Part, constant, named, same, applied, aggregate, refused, Reader, read_by, is_word, function_in_plan, arguments_in_plan}
 use Rattle.row_semantics.specs.Regulars.{Regular}
-use Rattle.row_semantics.specs.Scopes.{Broken, Standing, elsewhere, in_field, in_aggregate, Scope, column_named, within_aggregate}
+use Rattle.row_semantics.specs.Scopes.{Broken, Standing, elsewhere, in_field, Scope, column_named, within_aggregate}
 
 -- a rule that is broken at a place
 abbrev pub breaks : {A : Type 0} → NameRule → Span → Result A Broken
@@ -125,7 +125,6 @@ kind_of_aggregate function false (part ∷ next ∷ parts) span scope = breaks r
 abbrev pub kind_of_standing : Standing → AggFunction → Bool → List (Part Judged) → Span → Scope → Result Kind Broken
 kind_of_standing elsewhere function star parts span scope = breaks rule.NestedAggregate span
 kind_of_standing in_field function star parts span scope = kind_of_aggregate function star parts span scope
-kind_of_standing in_aggregate function star parts span scope = breaks rule.NestedAggregate span
 
 -- the kind of an expression by its form: the parts come before the node
 abbrev pub judged : Reader Judged

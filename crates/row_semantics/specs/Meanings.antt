@@ -1,5 +1,5 @@
 -- The value of an expression on a row of names, with its failures.
-use Rattle.std.specs.Prelude.{ℕ, ◌==◌, List, [], ◌∷◌, map, if◌then◌else◌}
+use Rattle.std.specs.Prelude.{◌==◌, List, [], ◌∷◌, map, if◌then◌else◌}
 use Rattle.esql_types.specs.declared.names.NodeId.{NodeId}
 use Rattle.esql_types.specs.declared.value.Value.{Value}
 use Rattle.esql_ast.specs.declared.expr.Expr.{Expr}

@@ -11,11 +11,10 @@ pub record Broken : Type 0 where
   pub rule : NameRule
   pub span : Span
 
--- where an expression stands: in an aggregate, in a field of STATS outside its aggregates, or elsewhere
+-- where an expression stands: in a field of STATS outside its aggregates, where they may stand, or elsewhere
 pub data Standing : Type 0 where
   elsewhere : Standing
   in_field : Standing
-  in_aggregate : Standing
 
 -- What an expression is judged by: the columns there, where it stands, and which regular expressions are accepted.
 pub record Scope : Type 0 where
@@ -28,6 +27,6 @@ abbrev pub column_named : List Column → List ℕ → Option Column
 column_named [] name = None
 column_named (column ∷ columns) name = if bytes_eq column.name name then Some column else column_named columns name
 
--- the scope within an aggregate
+-- the scope within an aggregate, where no other may stand
 abbrev pub within_aggregate : Scope → Scope
-within_aggregate scope = record scope { standing = in_aggregate }
+within_aggregate scope = record scope { standing = elsewhere }

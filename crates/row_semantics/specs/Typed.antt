@@ -1,26 +1,22 @@
 -- The typed form of an expression, over numbered columns.
-use Rattle.std.specs.Prelude.{ℕ, ◌+◌, ◌==◌, List, [], ◌∷◌, ◌++◌, map, length, Option, Some, None, if◌then◌else◌}
+use Rattle.std.specs.Prelude.{ℕ, ◌+◌, ◌==◌, Bool, true, false, List, [], ◌∷◌, ◌++◌, map, length, Option, Some, None, if◌then◌else◌}
 use Rattle.std.specs.List.{flat_map}
 use Rattle.std.specs.Str.{bytes_eq}
 use Rattle.esql_types.specs.declared.names.NodeId.{NodeId}
-use Rattle.esql_types.specs.declared.names.ColId.{ColId}
 use Rattle.esql_types.specs.declared.value.Kind.{Kind}
 use Rattle.esql_types.specs.declared.value.Kind.TheVariants as kind
 use Rattle.esql_ast.specs.declared.expr.Expr.{Expr}
 use Rattle.function_rules.specs.Found.{wrapped}
 use Rattle.esql_plan.specs.declared.function.Function.{Function}
 use Rattle.esql_plan.specs.declared.function.Function.TheVariants as function
+use Rattle.esql_plan.specs.declared.function.AggFunction.{AggFunction}
 use Rattle.esql_plan.specs.declared.plan.OutColumn.{OutColumn}
 use Rattle.esql_plan.specs.declared.typed.TypedExpr.{TypedExpr, roll-TypedExpr}
 use Rattle.esql_plan.specs.declared.typed.TypedForm.TheVariants as form
 use Rattle.esql_plan.specs.Signatures.{kind_of_call}
+use Rattle.row_semantics.specs.declared.call.CallColumn.{CallColumn}
+use Rattle.row_semantics.specs.Kinds.{aggregate_kind}
 use Rattle.row_semantics.specs.Forms.{Part, constant, named, same, applied, aggregate, refused, Reader, read_by, function_in_plan, arguments_in_plan}
-
--- the number and the kind of the column that stands for an aggregate call, which is known by its node
-pub record CallColumn : Type 0 where
-  pub node : NodeId
-  pub id : ColId
-  pub kind : Kind
 
 -- what names and aggregate calls stand for: numbered columns
 pub record Visible : Type 0 where
@@ -48,9 +44,10 @@ abbrev pub typed_column : NodeId → Option OutColumn → TypedExpr
 typed_column node (Some column) = roll-TypedExpr (record { node = node; kind = column.kind; form = form.Column column.id })
 typed_column node None = typed_null node
 
-abbrev pub typed_call : NodeId → Option CallColumn → TypedExpr
-typed_call node (Some call) = roll-TypedExpr (record { node = node; kind = call.kind; form = form.Column call.id })
-typed_call node None = typed_null node
+-- an aggregate call is the column that stands for it, and null where there is none so far
+abbrev pub typed_call : NodeId → Kind → Option CallColumn → TypedExpr
+typed_call node kind (Some call) = roll-TypedExpr (record { node = node; kind = kind; form = form.Column call.id })
+typed_call node kind None = roll-TypedExpr (record { node = node; kind = kind; form = form.Constant [] })
 
 -- parts in turn, each with the numbers on from those of the patterns before it
 abbrev pub typed_parts : List (Part Typing) → Visible → ℕ → ℕ → List TypedExpr
@@ -97,16 +94,23 @@ typed_applied node function written parts all = record {
       (pattern_number function (whole + length (flat_map (λ part. part.reading.whole) parts)) (free + length (flat_map (λ part. part.reading.free) parts)));
 }
 
+-- the kind of an aggregate by its argument; that of `*` is the kind of a count
+abbrev pub kind_of_called : AggFunction → Bool → List (Part Typing) → Visible → Kind
+kind_of_called function true parts visible = kind.Long
+kind_of_called function false [] visible = aggregate_kind function kind.Null
+kind_of_called function false (part ∷ parts) visible = aggregate_kind function (part.reading.at visible 0 0).kind
+
 abbrev pub without_patterns : (Visible → TypedExpr) → Typing
 without_patterns expr = record { whole = []; free = []; at = λ visible whole free. expr visible }
 
--- the typed form of an expression by its form; parentheses vanish
+-- The typed form of an expression by its form; parentheses vanish. The patterns in an aggregate's argument are read where the
+-- argument is written, not where the call stands.
 abbrev pub typing : Reader Typing
 typing node span (constant values kind) = without_patterns (λ visible. roll-TypedExpr (record { node = node; kind = kind; form = form.Constant values }))
 typing node span (named name) = without_patterns (λ visible. typed_column node (visible_named visible.columns name))
 typing node span (same part) = part.reading
 typing node span (applied function parts) = typed_applied node (function_in_plan function parts) function (arguments_in_plan function parts) parts
-typing node span (aggregate function star parts) = without_patterns (λ visible. typed_call node (call_at visible.calls node))
+typing node span (aggregate function star parts) = without_patterns (λ visible. typed_call node (kind_of_called function star parts visible) (call_at visible.calls node))
 typing node span (refused parts rule at) = without_patterns (λ visible. typed_null node)
 
 abbrev pub typing_of : Expr → Typing

@@ -5,8 +5,10 @@
 //! `Typed`.
 #![tactic(auto)]
 
+mod call;
 mod row;
 mod rule;
 
+pub use call::CallColumn;
 pub use row::NamedCell;
 pub use rule::NameRule;

@@ -5,6 +5,7 @@ use Rattle.std.proofs.lemmas.List.Elements.{All-nil, All-cons}
 use Rattle.esql_types.specs.declared.names.Column.{Column}
 use Rattle.esql_types.specs.declared.value.Kind.{Kind}
 use Rattle.esql_ast.specs.declared.query.Field.{Field}
+use Rattle.esql_ast.specs.declared.query.StatsField.{StatsField}
 use Rattle.esql_ast.specs.declared.query.Query.{Query}
 use Rattle.esql_ast.specs.declared.query.Command.{Command}
 use Rattle.esql_ast.specs.declared.query.CommandKind.{CommandKind}
@@ -26,11 +27,15 @@ use Rattle.row_semantics.specs.Sources.{columns_of_tables}
 use Rattle.query_semantics.specs.Commands.{names_in}
 use Rattle.query_semantics.specs.Meaning.{meaning_of, AreRowsOf}
 use Rattle.query_semantics.specs.Shapes.{Context, scope_over, shape_of_field, shape_of_fields, shape_of_kind, unless_empty, shape_of_command, shape_of_commands, shape_of_source, shape_of}
-use Rattle.query_semantics.specs.Written.{Writing, writing_of}
+use Rattle.query_semantics.specs.Stats.{name_of_stats}
+use Rattle.query_semantics.specs.StatsShapes.{FieldKinds, put_field_columns, put_group_columns}
+use Rattle.query_semantics.specs.Writings.{Writing}
+use Rattle.query_semantics.specs.Written.{writing_of}
 use Rattle.query_semantics.specs.Named.{named_row}
 use Rattle.query_semantics.proofs.Kinded.{found_of, ok_is}
 use Rattle.query_semantics.proofs.Named.{names_in-named, names_of-columns}
 use Rattle.written_laws.proofs.Shown.{unmet_is, missing_is, empty_is, condition_shows, keys_leave, expand_leaves}
+use Rattle.written_laws.proofs.StatsWhole.{stats_shape}
 use Rattle.written_laws.proofs.Whole.{start_of, rows_are, columns_are}
 use Rattle.query_semantics.proofs.Distinct.{AreDistinct, distinct_nil, distinct_put}
 use Rattle.written_laws.proofs.NamesKept.{columns_keep, columns_drop, columns_rename}
@@ -54,6 +59,18 @@ fields_distinct context (field ∷ fields) columns after distinct is =
     fields_distinct context fields found.value after
     (same_distinct _ found.value (ok_is one.next_is) (put_distinct columns (name_of_field context.text field) one.value distinct)) found.next_is
 
+field_columns_distinct : (text : List ℕ) (fields : List StatsField) (kinds : List FieldKinds) (columns : List Column) → HaveDistinctNames columns → HaveDistinctNames (put_field_columns text fields kinds columns)
+field_columns_distinct text [] kinds columns distinct = distinct
+field_columns_distinct text (stats ∷ fields) [] columns distinct = distinct
+field_columns_distinct text (stats ∷ fields) (first ∷ kinds) columns distinct =
+    field_columns_distinct text fields kinds (put_column columns (name_of_stats text stats) first.own) (put_distinct columns (name_of_stats text stats) first.own distinct)
+
+group_columns_distinct : (text : List ℕ) (groups : List Field) (kinds : List Kind) (columns : List Column) → HaveDistinctNames columns → HaveDistinctNames (put_group_columns text groups kinds columns)
+group_columns_distinct text [] kinds columns distinct = distinct
+group_columns_distinct text (group ∷ groups) [] columns distinct = distinct
+group_columns_distinct text (group ∷ groups) (first ∷ kinds) columns distinct =
+    group_columns_distinct text groups kinds (put_column columns (name_of_field text group) first) (put_distinct columns (name_of_field text group) first distinct)
+
 pub kind_distinct : (context : Context) (kind : CommandKind) (columns after : List Column) → HaveDistinctNames columns → shape_of_kind context kind columns ≡ Ok after → HaveDistinctNames after
 kind_distinct context (Filter condition) columns after distinct is = same_distinct columns after (condition_shows context condition columns after is) distinct
 kind_distinct context (Eval fields) columns after distinct is = fields_distinct context fields columns after distinct is
@@ -66,7 +83,9 @@ kind_distinct context (Rename pairs) columns after distinct is =
 kind_distinct context (Limit count) columns after distinct is = same_distinct columns after (ok_is is) distinct
 kind_distinct context (Sort keys) columns after distinct is = same_distinct columns after (keys_leave context keys columns after is) distinct
 kind_distinct context (Expand column) columns after distinct is = same_distinct columns after (expand_leaves column columns after is) distinct
-kind_distinct context (Stats fields groups) columns after distinct is = same_distinct columns after (ok_is is) distinct
+kind_distinct context (Stats fields groups) columns after distinct is =
+    let found = stats_shape context.text context.accepts fields groups columns after is in
+    same_distinct _ after found.next_is (group_columns_distinct context.text groups found.groups _ (field_columns_distinct context.text fields found.fields [] distinct_nil))
 kind_distinct context (Dissect input pattern separator) columns after distinct is = same_distinct columns after (ok_is is) distinct
 kind_distinct context (Grok input pattern) columns after distinct is = same_distinct columns after (ok_is is) distinct
 kind_distinct context (Enrich policy on fields) columns after distinct is = same_distinct columns after (ok_is is) distinct
@@ -104,4 +123,4 @@ pub are_rows : (text : List ℕ) (tables : List TableHeld) (catalog : Catalog) (
 are_rows text tables catalog query columns tables_are is =
     let writing : Writing = writing_of text catalog query in
     subst (λ these. AreRowsOf these (meaning_of text tables query).rows) (sym (columns_are text catalog query columns is))
-    (subst (AreRowsOf (columns_of writing.visible)) (sym (rows_are text tables catalog query tables_are)) (rows_named writing.visible (rows_after writing.steps (start_of tables catalog query))))
+    (subst (AreRowsOf (columns_of writing.visible)) (sym (rows_are text tables catalog query columns tables_are is)) (rows_named writing.visible (rows_after writing.steps (start_of tables catalog query))))

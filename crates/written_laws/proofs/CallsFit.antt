@@ -84,7 +84,7 @@ is_given None is = absurd cc
 is_given (Some text) is = refl
 
 -- the typed form of a part has the part's kind
-kind_of_part : (whole free : List (List ℕ)) (expr : TypedExpr) → (plan_part whole free expr).kind ≡ expr.kind
+pub kind_of_part : (whole free : List (List ℕ)) (expr : TypedExpr) → (plan_part whole free expr).kind ≡ expr.kind
 kind_of_part whole free = typed_ind (λ expr. (plan_part whole free expr).kind ≡ expr.kind) (record {
   constant = λ node kind cell. ap (λ (part : PlanPart). part.kind) (part_of_constant whole free _ cell refl);
   column = λ node kind id. ap (λ (part : PlanPart). part.kind) (part_of_column whole free _ id refl);
@@ -96,7 +96,7 @@ kinds_of_typed whole free args =
     map_map (λ (part : PlanPart). part.kind) (plan_part whole free) args
     ∙ map_same (λ (arg : TypedExpr). (plan_part whole free arg).kind) (λ (arg : TypedExpr). arg.kind) (kind_of_part whole free) args
 
-All-in_plan : {A : Type 0} (P : A → Type 0) (function : Function) (items : List A) → All P items → All P (arguments_in_plan function items)
+pub All-in_plan : {A : Type 0} (P : A → Type 0) (function : Function) (items : List A) → All P items → All P (arguments_in_plan function items)
 All-in_plan P function.MvSort [] all = all
 All-in_plan P function.MvSort (values ∷ rest) all = All-cons P values [] (All-head P values rest all) (All-nil P)
 All-in_plan P other items all = all

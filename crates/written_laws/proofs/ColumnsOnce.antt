@@ -1,5 +1,5 @@
 -- Each column number of a written plan is made once, by its source or by one of its steps.
-use Rattle.std.proofs.Common.{◌≡◌, ℕ, ◌+◌, ◌<◌, ◌==◌, ◌||◌, false, List, [], ◌∷◌, ◌++◌, map, length, fold, All, Option, Some, None, refl, ap, sym, subst, ◌∙◌, append_assoc, arith}
+use Rattle.std.proofs.Common.{◌≡◌, ℕ, suc, ◌+◌, ◌<◌, ◌==◌, ◌||◌, false, List, [], ◌∷◌, ◌++◌, map, length, fold, All, Option, Some, None, refl, ap, sym, subst, ◌∙◌, append_assoc, arith}
 use Rattle.std.specs.List.{flat_map, list_any, IsDistinct}
 use Rattle.std.proofs.lemmas.Cmp.{nat_eq_equiv}
 use Rattle.std.proofs.lemmas.Grind.{flat_map-append}
@@ -10,11 +10,13 @@ use Rattle.esql_types.specs.declared.names.Column.{Column}
 use Rattle.esql_types.specs.declared.names.ColId.{ColId}
 use Rattle.esql_types.specs.declared.names.NodeId.{NodeId}
 use Rattle.esql_ast.specs.declared.expr.Expr.{Expr}
+use Rattle.esql_ast.specs.declared.query.Condition.{Condition}
 use Rattle.esql_ast.specs.declared.query.Field.{Field}
+use Rattle.esql_ast.specs.declared.query.StatsField.{StatsField}
 use Rattle.esql_ast.specs.declared.query.Query.{Query}
 use Rattle.esql_ast.specs.declared.query.Command.{Command}
 use Rattle.esql_ast.specs.declared.query.CommandKind.{CommandKind}
-use Rattle.esql_ast.specs.declared.query.CommandKind.TheVariants.{Filter, Eval, Sort, Limit, Expand}
+use Rattle.esql_ast.specs.declared.query.CommandKind.TheVariants.{Filter, Eval, Sort, Limit, Expand, Stats}
 use Rattle.esql_ast.specs.declared.query.SourceCommand.{SourceCommand}
 use Rattle.esql_ast.specs.declared.query.SourceCommand.TheVariants.{Tables, OneRow}
 use Rattle.esql_plan.specs.declared.catalog.Catalog.{Catalog}
@@ -22,14 +24,21 @@ use Rattle.esql_plan.specs.declared.plan.OutColumn.{OutColumn}
 use Rattle.esql_plan.specs.declared.plan.ScanColumn.{ScanColumn}
 use Rattle.esql_plan.specs.declared.step.Step.{Step}
 use Rattle.esql_plan.specs.declared.step.Step.TheVariants as step
+use Rattle.esql_plan.specs.declared.typed.TypedExpr.{TypedExpr}
+use Rattle.plan_semantics.specs.Stats.{stats_columns}
 use Rattle.plan_semantics.specs.WellFormed.{AreOnce, source_makes, step_makes, AreMadeOnce}
 use Rattle.row_semantics.specs.Sources.{columns_of_tables, columns_or_none}
 use Rattle.row_semantics.specs.Typed.{visible_named}
+use Rattle.query_semantics.specs.Calls.{AggregateCall, calls_of}
 use Rattle.query_semantics.specs.Cuts.{last_count}
-use Rattle.query_semantics.specs.Written.{Writing, column_at, typed_in, column_of_typed, write_field, write_fields, write_input_by, write_input, write_keys, keys_in_plan, write_expand_of, write_kind, write_command, numbered_from, scan_column, source_in_plan, write_source, writing_of_columns, writing_of}
+use Rattle.query_semantics.specs.Writings.{Writing, column_at, typed_in, column_of_typed, write_input_by, write_input}
+use Rattle.query_semantics.specs.WrittenStats.{Flag, flag_typed, flagged_typed, write_typed, write_flag, flag_of, write_call, write_calls, write_before, write_all_before, CallInput, all_inputs, GroupInput, write_groups, group_inputs, write_grouping, field_typed, write_field_by, write_stats_field, write_stats_fields, write_stats}
+use Rattle.query_semantics.specs.Written.{write_field, write_fields, write_keys, keys_in_plan, write_expand_of, write_kind, write_command, numbered_from, scan_column, source_in_plan, write_source, writing_of_columns, writing_of}
 use Rattle.query_semantics.proofs.Squares.{map_map}
 use Rattle.written_laws.proofs.Inputs.{write_inputs}
 use Rattle.written_laws.proofs.Commands.{expr_of_key}
+use Rattle.written_laws.proofs.Consecutive.{AreFrom}
+use Rattle.written_laws.proofs.GroupingFormed.{new_aggregates, new_groups, columns_from, length_columns}
 use Rattle.written_laws.proofs.Sources.{eq_above, all_below}
 use Rattle.written_laws.proofs.SourceFormed.{once}
 
@@ -71,6 +80,30 @@ module _ (given : List ColId) where
         once = subst AreOnce (sym are) (next_once ids next numbered.below numbered.once);
       }
 
+  -- a step that makes columns of the next numbers
+  all_numbered : (ids new : List ColId) (next : ℕ) → All (IsIdBelow next) ids → AreOnce ids → AreFrom number_of next new → All (IsIdBelow (next + length new)) (ids ++ new) × AreOnce (ids ++ new)
+  all_numbered ids [] next below once from =
+      (All-same (IsIdBelow (next + 0)) _ ids (append-nil ids) (All-weaker (IsIdBelow next) (IsIdBelow (next + 0)) (λ id less. omega (arith, less)) ids below), subst AreOnce (sym (append-nil ids)) once)
+  all_numbered ids (id ∷ new) next below once from =
+      let own : id ≡ column_at next = ap (λ (n : ℕ). column_at n) from.0 in
+      let more : List ColId = ids ++ id ∷ [] in
+      let all : All (IsIdBelow (next + 1)) more =
+      All-push (IsIdBelow (next + 1)) ids id (All-weaker (IsIdBelow next) (IsIdBelow (next + 1)) (λ other less. omega (arith, less)) ids below) (omega (arith, from.0)) in
+      let rest = all_numbered more new (next + 1) all (subst (λ (this : ColId). AreOnce (ids ++ this ∷ [])) (sym own) (next_once ids next below once)) from.1 in
+      let are : more ++ new ≡ ids ++ id ∷ new = append_assoc ids (id ∷ []) new in (
+        All-same (IsIdBelow (next + suc (length new))) _ _ (sym are)
+            (All-weaker (IsIdBelow (next + 1 + length new)) (IsIdBelow (next + suc (length new))) (λ other less. omega (arith, less)) (more ++ new) rest.0),
+        subst AreOnce are rest.1,
+      )
+
+  grouping_numbered : (steps : List Step) (last : Step) (new : List ColId) (next : ℕ) → step_makes last ≡ new → AreFrom number_of next new → AreNumbered given steps next
+      → AreNumbered given (steps ++ last ∷ []) (next + length new)
+  grouping_numbered steps last new next makes from numbered =
+      let ids : List ColId = given ++ flat_map step_makes steps in
+      let are = made_with steps last ∙ ap (λ (own : List ColId). ids ++ own) (append-nil (step_makes last) ∙ makes) in
+      let all = all_numbered ids new next numbered.below numbered.once from in
+      record { below = All-same (IsIdBelow (next + length new)) _ (ids ++ new) are all.0; once = subst AreOnce (sym are) all.1 }
+
   -- a step that makes none
   same_numbered : (steps : List Step) (last : Step) (next : ℕ) → step_makes last ≡ [] → AreNumbered given steps next → AreNumbered given (steps ++ last ∷ []) next
   same_numbered steps last next makes numbered =
@@ -102,6 +135,63 @@ module _ (given : List ColId) where
   expand_numbered name writing None numbered = numbered
   expand_numbered name writing (Some column) numbered = next_numbered writing.steps (step.Expand column.id (column_at writing.next)) writing.next refl numbered
 
+  -- STATS
+  typed_numbered : (writing : Writing) (expr : Expr) (typed : TypedExpr) → IsNumberedFrom writing → IsNumberedFrom (write_typed writing expr typed)
+  typed_numbered writing expr typed numbered = next_numbered writing.steps (step.Eval (column_at writing.next) typed) writing.next refl numbered
+
+  flag_numbered : (condition : Option Condition) (writing : Writing) → IsNumberedFrom writing → IsNumberedFrom (write_flag condition writing)
+  flag_numbered None writing numbered = numbered
+  flag_numbered (Some condition) writing numbered = typed_numbered writing condition.expr (flag_typed condition.node (typed_in writing condition.expr)) numbered
+
+  call_numbered : (flag : Option Flag) (argument : Option Expr) (writing : Writing) → IsNumberedFrom writing → IsNumberedFrom (write_call flag argument writing)
+  call_numbered None None writing numbered = numbered
+  call_numbered (Some flag) None writing numbered = numbered
+  call_numbered None (Some argument) writing numbered = input_numbered writing argument numbered
+  call_numbered (Some flag) (Some argument) writing numbered = typed_numbered writing argument (flagged_typed flag (typed_in writing argument)) numbered
+
+  calls_numbered : (flag : Option Flag) (calls : List AggregateCall) (writing : Writing) → IsNumberedFrom writing → IsNumberedFrom (write_calls flag calls writing)
+  calls_numbered flag [] writing numbered = numbered
+  calls_numbered flag (call ∷ calls) writing numbered = calls_numbered flag calls (write_call flag call.argument writing) (call_numbered flag call.argument writing numbered)
+
+  before_numbered : (fields : List StatsField) (writing : Writing) → IsNumberedFrom writing → IsNumberedFrom (write_all_before fields writing)
+  before_numbered [] writing numbered = numbered
+  before_numbered (stats ∷ fields) writing numbered =
+      before_numbered fields (write_before stats writing)
+      (calls_numbered (flag_of stats.condition writing) (calls_of stats.field.expr) (write_flag stats.condition writing) (flag_numbered stats.condition writing numbered))
+
+  groups_numbered : (groups : List Field) (writing : Writing) → IsNumberedFrom writing → IsNumberedFrom (write_groups groups writing)
+  groups_numbered [] writing numbered = numbered
+  groups_numbered (group ∷ groups) writing numbered = groups_numbered groups (write_input writing group.expr) (input_numbered writing group.expr numbered)
+
+  field_numbered : (text : List ℕ) (before : List OutColumn) (number : ℕ) (stats : StatsField) (writing : Writing) → IsNumberedFrom writing → IsNumberedFrom (write_stats_field text before number stats writing)
+  field_numbered text before number stats writing numbered = by_found (column_of_typed typed)
+    where
+      typed : TypedExpr
+      typed = field_typed before number writing stats.field.expr
+
+      by_found : (found : Option ColId) → IsNumberedFrom (write_field_by found writing stats.field.expr typed)
+      by_found (Some id) = numbered
+      by_found None = typed_numbered writing stats.field.expr typed numbered
+
+  stats_fields_numbered : (text : List ℕ) (before : List OutColumn) (number : ℕ) (fields : List StatsField) (writing : Writing) → IsNumberedFrom writing
+      → IsNumberedFrom (write_stats_fields text before number fields writing)
+  stats_fields_numbered text before number [] writing numbered = numbered
+  stats_fields_numbered text before number (stats ∷ fields) writing numbered =
+      stats_fields_numbered text before (number + length (calls_of stats.field.expr)) fields (write_stats_field text before number stats writing) (field_numbered text before number stats writing numbered)
+
+  stats_numbered : (text : List ℕ) (fields : List StatsField) (groups : List Field) (writing : Writing) → IsNumberedFrom writing → IsNumberedFrom (write_stats text fields groups writing)
+  stats_numbered text fields groups writing numbered =
+      let with_arguments : Writing = write_all_before fields writing in
+      let with_inputs : Writing = write_groups groups with_arguments in
+      let calls : List CallInput = all_inputs fields writing in
+      let inputs : List GroupInput = group_inputs groups with_arguments in
+      let new : List ColId = stats_columns (new_aggregates with_inputs.next calls inputs) (new_groups with_inputs.next calls inputs) in
+      let grouped : Writing = write_grouping calls inputs with_inputs in
+      let own = grouping_numbered with_inputs.steps (step.Stats (new_aggregates with_inputs.next calls inputs) (new_groups with_inputs.next calls inputs)) new with_inputs.next refl
+      (columns_from with_inputs.next calls inputs) (groups_numbered groups with_arguments (before_numbered fields writing numbered)) in
+      stats_fields_numbered text writing.visible with_inputs.next fields grouped
+      (subst (λ (count : ℕ). AreNumbered given grouped.steps (with_inputs.next + count)) (length_columns with_inputs.next calls inputs) own)
+
   kind_numbered : (text : List ℕ) (node : NodeId) (kind : CommandKind) (writing : Writing) → IsNumberedFrom writing → IsNumberedFrom (write_kind text node kind writing)
   kind_numbered text node (Filter condition) writing numbered = same_numbered writing.steps (step.Filter node (typed_in writing condition)) writing.next refl numbered
   kind_numbered text node (Eval fields) writing numbered = fields_numbered text fields writing numbered
@@ -110,6 +200,7 @@ module _ (given : List ColId) where
       same_numbered after.steps (step.Sort (keys_in_plan keys writing)) after.next refl (inputs_numbered expr_of_key keys writing numbered)
   kind_numbered text node (Limit count) writing numbered = same_numbered writing.steps (step.Limit count) writing.next refl numbered
   kind_numbered text node (Expand column) writing numbered = expand_numbered column.name writing (visible_named writing.visible column.name) numbered
+  kind_numbered text node (Stats fields groups) writing numbered = stats_numbered text fields groups writing numbered
   kind_numbered text node other writing numbered = numbered
 
   commands_numbered : (text : List ℕ) (commands : List Command) (writing : Writing) → IsNumberedFrom writing → IsNumberedFrom (fold (write_command text) writing commands)

@@ -1,5 +1,5 @@
 -- The typed form of an expression reads columns that can be seen.
-use Rattle.std.proofs.Common.{ℕ, ◌+◌, true, false, cond, List, [], ◌∷◌, length, All, Some, refl, ap, ◌∙◌}
+use Rattle.std.proofs.Common.{ℕ, ◌+◌, true, false, cond, List, [], ◌∷◌, length, All, Some, None, refl, ap, ◌∙◌}
 use Rattle.std.specs.List.{flat_map}
 use Rattle.std.specs.Str.{bytes_eq}
 use Rattle.std.proofs.lemmas.List.Elements.{All-nil, All-cons, All-head, All-tail, All-append, All-same}
@@ -13,7 +13,7 @@ use Rattle.esql_plan.specs.Fits.{ReadColumn, columns_read}
 use Rattle.esql_plan.proofs.TypedFolds.{columns_of_constant, columns_of_column, columns_of_call}
 use Rattle.plan_semantics.specs.WellFormed.{MadeColumn, IsMadeAs}
 use Rattle.row_semantics.specs.Forms.{Part, Seen, constant, named, same, applied, aggregate, refused, Reader, read_by, function_in_plan, arguments_in_plan}
-use Rattle.row_semantics.specs.Typed.{Visible, Typing, visible_named, typed_null, typed_column, typed_parts, typing, typed_of}
+use Rattle.row_semantics.specs.Typed.{Visible, Typing, visible_named, typed_null, typed_column, typed_call, kind_of_called, typed_parts, typing, typed_of}
 use Rattle.query_semantics.proofs.Readings.{part_with, parts_with, seen_with, read_made}
 use Rattle.query_semantics.proofs.Valued.{arguments_with}
 
@@ -74,7 +74,8 @@ seen_reads node span (constant values kind) made visible all whole free = All-sa
 seen_reads node span (named name) made visible all whole free = column_reads made node name visible all
 seen_reads node span (same part) made visible all whole free = part.reading.is made visible all whole free
 seen_reads node span (applied function parts) made visible all whole free = applied_reads node span function parts made visible all whole free
-seen_reads node span (aggregate function star parts) made visible all whole free = null_reads made node
+seen_reads node span (aggregate function star parts) made visible all whole free =
+    All-same (ReadIsMade made) _ _ (columns_of_constant (typed_call node (kind_of_called function star (parts_with typing_in parts) (over visible)) None) [] refl) (All-nil (ReadIsMade made))
 seen_reads node span (refused parts rule at) made visible all whole free = null_reads made node
 
 abbrev both : Reader Both

@@ -11,7 +11,7 @@ use Rattle.esql_ast.specs.declared.query.Field.{Field}
 use Rattle.esql_ast.specs.declared.query.SortKey.{SortKey}
 use Rattle.esql_ast.specs.declared.query.Command.{Command}
 use Rattle.esql_ast.specs.declared.query.CommandKind.{CommandKind}
-use Rattle.esql_ast.specs.declared.query.CommandKind.TheVariants.{Filter, Eval, Keep, Drop, Rename, Sort, Limit, Expand}
+use Rattle.esql_ast.specs.declared.query.CommandKind.TheVariants.{Filter, Eval, Keep, Drop, Rename, Sort, Limit, Expand, Stats}
 use Rattle.function_rules.specs.Lists.{sorted_by}
 use Rattle.esql_plan.specs.declared.plan.OutColumn.{OutColumn}
 use Rattle.esql_plan.specs.declared.step.Step.{Step}
@@ -26,19 +26,18 @@ use Rattle.plan_semantics.proofs.Sorted.{through, sorted_mapped}
 use Rattle.row_semantics.specs.Rows.{Row, put}
 use Rattle.row_semantics.specs.Fields.{name_of_field}
 use Rattle.row_semantics.specs.Typed.{visible_named}
-use Rattle.query_semantics.specs.Commands.{value_in_row, row_with_field, rows_of_fields, failures_of_fields, failures_of_expr, rows_of_condition, failures_of_rows, order_by_keys, rows_of_keys, failures_of_keys, expanded_row, rows_of_kind, failures_of_kind, rows_of_commands, failures_of_commands, kept_of_row, left_of_row, renamed_row}
-use Rattle.query_semantics.specs.Written.{Writing, column_at, put_visible, typed_in, write_field, write_fields, write_input, write_keys, keys_in_plan, write_sort, renumbered, write_expand_of, write_kind, write_command}
+use Rattle.query_semantics.specs.RowValues.{value_in_row, failures_of_expr, failures_of_rows}
+use Rattle.query_semantics.specs.Commands.{row_with_field, rows_of_fields, failures_of_fields, rows_of_condition, order_by_keys, rows_of_keys, failures_of_keys, expanded_row, rows_of_kind, failures_of_kind, rows_of_commands, failures_of_commands, kept_of_row, left_of_row, renamed_row}
+use Rattle.query_semantics.specs.Writings.{Writing, column_at, put_visible, typed_in, write_input}
+use Rattle.query_semantics.specs.Written.{write_field, write_fields, write_keys, keys_in_plan, write_sort, renumbered, write_expand_of, write_kind, write_command}
 use Rattle.query_semantics.specs.Named.{named_row}
 use Rattle.query_semantics.proofs.Squares.{map_square, map_map, map_same, flat_map_square, flat_map_none, flat_map_one, map-flat_map, filter_square, filter_each}
 use Rattle.query_semantics.proofs.Named.{AllBelow, named_put, named_same, below_put, kept-named, left-named, renamed-named, below-places, below-renamed, expanded-named, unexpanded-named, below-renumbered}
 use Rattle.query_semantics.proofs.Valued.{expr_valued}
 use Rattle.written_laws.proofs.Inputs.{failures_after-push, HaveInputs, InputsStand, inputs_stand}
-
--- what has been written stands for rows of names and the failures on the way, over the rows that the source gives
-pub record Stands (start : List NumberedRow) (rows : List Row) (failures : List Failure) (writing : Writing) : Type 0 where
-  pub rows_are : rows ≡ map (named_row writing.visible) (rows_after writing.steps start)
-  pub failures_are : failures ≡ failures_after writing.steps start
-  pub below : AllBelow writing.next writing.visible
+use Rattle.written_laws.proofs.Standing.{Stands}
+use Rattle.written_laws.proofs.StatsStands.{stats_stands}
+use Rattle.written_laws.proofs.StatsWhole.{KindIsWhole, CommandsAreWhole}
 
 -- SORT orders by keys the rows that have the inputs of the keys as it does their rows of names
 abbrev pub expr_of_key : SortKey → Expr
@@ -181,28 +180,29 @@ fields_stand text start (field ∷ fields) rows failures writing stands =
     (fields_stand text start fields (map (row_with_field text field) rows) (failures ++ failures_of_expr field.expr rows) (write_field text writing field)
     (field_stands start rows failures writing stands text field))
 
--- a command
-pub kind_stands : (text : List ℕ) (start : List NumberedRow) (node : NodeId) (kind : CommandKind) (rows : List Row) (failures : List Failure) (writing : Writing) → Stands start rows failures writing
+-- a command whose aggregate calls have their arguments
+pub kind_stands : (text : List ℕ) (start : List NumberedRow) (node : NodeId) (kind : CommandKind) → KindIsWhole kind → (rows : List Row) (failures : List Failure) (writing : Writing) → Stands start rows failures writing
     → Stands start (rows_of_kind text kind rows) (failures ++ failures_of_kind text node kind rows) (write_kind text node kind writing)
-kind_stands text start node (Filter condition) rows failures writing stands = condition_stands start rows failures writing stands text node condition
-kind_stands text start node (Eval fields) rows failures writing stands = fields_stand text start fields rows failures writing stands
-kind_stands text start node (Keep patterns) rows failures writing stands =
+kind_stands text start node (Filter condition) whole rows failures writing stands = condition_stands start rows failures writing stands text node condition
+kind_stands text start node (Eval fields) whole rows failures writing stands = fields_stand text start fields rows failures writing stands
+kind_stands text start node (Keep patterns) whole rows failures writing stands =
     seen_stands start rows failures writing stands _ (kept_of_row patterns) (kept-named patterns writing.visible) (below-places writing.next _ writing.visible stands.below)
-kind_stands text start node (Drop patterns) rows failures writing stands =
+kind_stands text start node (Drop patterns) whole rows failures writing stands =
     seen_stands start rows failures writing stands _ (left_of_row patterns) (left-named patterns writing.visible) (below-places writing.next _ writing.visible stands.below)
-kind_stands text start node (Rename pairs) rows failures writing stands =
+kind_stands text start node (Rename pairs) whole rows failures writing stands =
     seen_stands start rows failures writing stands _ (renamed_row pairs) (renamed-named pairs writing.visible) (below-renamed writing.next _ writing.visible stands.below)
-kind_stands text start node (Limit count) rows failures writing stands = limit_stands start rows failures writing stands text node count
-kind_stands text start node (Sort keys) rows failures writing stands = sort_stands start rows failures writing stands keys
-kind_stands text start node (Expand column) rows failures writing stands = expand_stands start rows failures writing stands column.name (visible_named writing.visible column.name) refl
-kind_stands text start node other rows failures writing stands = unbuilt_stands start rows failures writing stands
+kind_stands text start node (Limit count) whole rows failures writing stands = limit_stands start rows failures writing stands text node count
+kind_stands text start node (Sort keys) whole rows failures writing stands = sort_stands start rows failures writing stands keys
+kind_stands text start node (Expand column) whole rows failures writing stands = expand_stands start rows failures writing stands column.name (visible_named writing.visible column.name) refl
+kind_stands text start node (Stats fields groups) whole rows failures writing stands = stats_stands start rows failures writing stands fields groups whole text
+kind_stands text start node other whole rows failures writing stands = unbuilt_stands start rows failures writing stands
 
 -- commands in turn
-pub commands_stand : (text : List ℕ) (start : List NumberedRow) (commands : List Command) (rows : List Row) (failures : List Failure) (writing : Writing) → Stands start rows failures writing
+pub commands_stand : (text : List ℕ) (start : List NumberedRow) (commands : List Command) → CommandsAreWhole commands → (rows : List Row) (failures : List Failure) (writing : Writing) → Stands start rows failures writing
     → Stands start (rows_of_commands text commands rows) (failures ++ failures_of_commands text commands rows) (fold (write_command text) writing commands)
-commands_stand text start [] rows failures writing stands = unbuilt_stands start rows failures writing stands
-commands_stand text start (command ∷ commands) rows failures writing stands =
+commands_stand text start [] whole rows failures writing stands = unbuilt_stands start rows failures writing stands
+commands_stand text start (command ∷ commands) whole rows failures writing stands =
     subst (λ these. Stands start (rows_of_commands text (command ∷ commands) rows) these (fold (write_command text) writing (command ∷ commands)))
     (append_assoc failures (failures_of_kind text command.node command.kind rows) (failures_of_commands text commands (rows_of_kind text command.kind rows)))
-    (commands_stand text start commands (rows_of_kind text command.kind rows) (failures ++ failures_of_kind text command.node command.kind rows) (write_command text writing command)
-    (kind_stands text start command.node command.kind rows failures writing stands))
+    (commands_stand text start commands whole.1 (rows_of_kind text command.kind rows) (failures ++ failures_of_kind text command.node command.kind rows) (write_command text writing command)
+    (kind_stands text start command.node command.kind whole.0 rows failures writing stands))

@@ -29,8 +29,9 @@ use Rattle.row_semantics.specs.declared.rule.NameRule.TheVariants as rule
 use Rattle.row_semantics.specs.Forms.{Part, Seen, constant, named, same, applied, aggregate, refused, seen, call_by, takes, cast_by, list_in_kind, kind_of_list, constant_in, function_of, like_function, literal_of, literal_of_constant, part_of_form, part_of, pattern_part}
 use Rattle.row_semantics.specs.Scopes.{Scope}
 use Rattle.row_semantics.specs.Kinds.{Judged, judged, kind_or_rule}
-use Rattle.row_semantics.specs.Typed.{Visible, CallColumn, Typing, visible_named, call_at, typed_null, typed_column, typed_call, typing, typing_of, typed_of}
-use Rattle.query_semantics.proofs.Readings.{seen_with, read_made}
+use Rattle.row_semantics.specs.declared.call.CallColumn.{CallColumn}
+use Rattle.row_semantics.specs.Typed.{Visible, Typing, visible_named, call_at, typed_null, typed_column, typed_call, kind_of_called, typing, typing_of, typed_of}
+use Rattle.query_semantics.proofs.Readings.{parts_with, seen_with, read_made}
 use Rattle.query_semantics.proofs.Kinded.{StandsOver, Both, typing_in, judged_in, both}
 use Rattle.written_laws.proofs.Numbers.{HasAt}
 use Rattle.written_laws.proofs.RowsFit.{RowFits, CastFits, named_fits, cast_fits}
@@ -58,9 +59,9 @@ module _ (whole free : List (List ℕ)) where
   column_fits node None = null_fits node
   column_fits node (Some column) = ap (λ (part : PlanPart). part.fits) (part_of_column whole free (typed_column node (Some column)) column.id refl)
 
-  call_fits : (node : NodeId) (found : Option CallColumn) → ExprFits whole free (typed_call node found)
-  call_fits node None = null_fits node
-  call_fits node (Some call) = ap (λ (part : PlanPart). part.fits) (part_of_column whole free (typed_call node (Some call)) call.id refl)
+  call_fits : (node : NodeId) (kind : Kind) (found : Option CallColumn) → ExprFits whole free (typed_call node kind found)
+  call_fits node kind None = ap (λ (part : PlanPart). part.fits) (part_of_constant whole free (typed_call node kind None) [] refl)
+  call_fits node kind (Some call) = ap (λ (part : PlanPart). part.fits) (part_of_column whole free (typed_call node kind (Some call)) call.id refl)
 
 seen_fits : (node : NodeId) (span : Span) (form : Seen Both) → SeenFits form → (visible : Visible) (scope : Scope) (kind : Kind) → StandsOver visible scope
     → judged node span (seen_with judged_in form) scope ≡ Ok kind → (at_whole at_free : ℕ) (whole free : List (List ℕ))
@@ -71,7 +72,8 @@ seen_fits node span (named name) has visible scope kind stands is at_whole at_fr
 seen_fits node span (same part) has visible scope kind stands is at_whole at_free whole free wholes_at frees_at = has.fits visible scope kind stands is at_whole at_free whole free wholes_at frees_at
 seen_fits node span (applied written parts) has visible scope kind stands is at_whole at_free whole free wholes_at frees_at =
     applied_fits visible scope stands whole free node span written parts kind has is at_whole at_free wholes_at frees_at
-seen_fits node span (aggregate called star parts) has visible scope kind stands is at_whole at_free whole free wholes_at frees_at = call_fits whole free node (call_at visible.calls node)
+seen_fits node span (aggregate called star parts) has visible scope kind stands is at_whole at_free whole free wholes_at frees_at =
+    call_fits whole free node (kind_of_called called star (parts_with typing_in parts) visible) (call_at visible.calls node)
 seen_fits node span (refused parts rule at) has visible scope kind stands is at_whole at_free whole free wholes_at frees_at = null_fits whole free node
 
 -- forms that are told by more than their constructor --------------------------------------------------------------------------

@@ -14,15 +14,17 @@ use Rattle.row_semantics.specs.Regulars.{is_accepted}
 use Rattle.query_semantics.specs.Catalogs.{IsCatalog}
 use Rattle.query_semantics.specs.Cuts.{last_count}
 use Rattle.query_semantics.specs.Shapes.{Context, shape_of, shape_of_source, shape_of_commands}
-use Rattle.query_semantics.specs.Written.{Writing, source_in_plan, write_source, writing_of, written_of}
+use Rattle.query_semantics.specs.Writings.{Writing}
+use Rattle.query_semantics.specs.Written.{source_in_plan, write_source, writing_of, written_of}
 use Rattle.query_semantics.proofs.Kinded.{found_of}
 use Rattle.query_semantics.proofs.Named.{eq_itself}
 use Rattle.written_laws.proofs.Shown.{source_shows}
 use Rattle.written_laws.proofs.Apart.{source_distinct}
 use Rattle.written_laws.proofs.ColumnsOnce.{written_made_once}
 use Rattle.written_laws.proofs.Numbers.{all_at}
-use Rattle.written_laws.proofs.NodesWritten.{written_below}
-use Rattle.written_laws.proofs.StepsFormed.{IsNodeBelow, IsWithin, IsFormed, limit_formed, commands_formed, steps_show}
+use Rattle.written_laws.proofs.NodesWritten.{commands_once, written_below}
+use Rattle.written_laws.proofs.StepsFormed.{IsNodeBelow, IsWithin, IsFormed, limit_formed, steps_show}
+use Rattle.written_laws.proofs.CommandsFormed.{commands_formed}
 use Rattle.written_laws.proofs.SourceFormed.{count_made, source_formed, source_stands}
 
 -- nodes are below a number where none from there on is among them
@@ -50,7 +52,8 @@ written_formed text catalog query columns is_catalog numbered is =
     let made : List MadeColumn = source_made (source_in_plan catalog query.source) in
     let first : ℕ = count_made context query.source in
     let commands = commands_formed made first context query.commands found.value columns (write_source text catalog query.source) (source_formed context query.source found.value found.is)
-    (source_shows context query.source found.value found.is) (source_distinct context query.source found.value found.is) found.next_is in
+    (source_shows context query.source found.value found.is) (source_distinct context query.source found.value found.is)
+    (λ node. commands_once node query numbered) found.next_is in
     let formed : IsFormed made first writing = limit_formed made first _ commands (last_count query) in
     let bounds : Bounds = bounds_of writing.whole writing.free (written_of text catalog query).plan in
     let within : IsWithin bounds writing = record {

@@ -16,8 +16,8 @@ use Rattle.plan_semantics.specs.Tables.{with_cell}
 use Rattle.plan_semantics.specs.Steps.{step_fails, step_failures, rows_after, failures_after}
 use Rattle.plan_semantics.proofs.Splits.{rows_after-append, failures_after-append}
 use Rattle.row_semantics.specs.Rows.{Row}
-use Rattle.query_semantics.specs.Commands.{value_in_row, failures_of_expr}
-use Rattle.query_semantics.specs.Written.{Writing, column_at, typed_in, column_of_typed, write_input_by, write_input, input_by, input_of}
+use Rattle.query_semantics.specs.RowValues.{value_in_row, failures_of_expr}
+use Rattle.query_semantics.specs.Writings.{Writing, column_at, typed_in, column_of_typed, write_input_by, write_input, input_by, input_of}
 use Rattle.query_semantics.specs.Named.{named_row}
 use Rattle.query_semantics.proofs.Squares.{map_map, map_same, flat_map_square, flat_map_none, flat_map_one}
 use Rattle.query_semantics.proofs.Named.{IsBelow, AllBelow, IsSameBelow, cell_put, same_put, named_same}

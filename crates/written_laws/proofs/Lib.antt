@@ -1,3 +1,13 @@
+pub mod Stages
+pub mod StatsInputs
+pub mod StatsGroups
+pub mod FieldColumns
+pub mod StatsRows
+pub mod StatsBehind
+pub mod Standing
+pub mod StatsStands
+pub mod StatsWhole
+pub mod StatsShown
 pub mod Inputs
 pub mod Commands
 pub mod Sources
@@ -9,6 +19,7 @@ pub mod Limits
 pub mod NodesTyped
 pub mod NodesCounted
 pub mod NodesWritten
+pub mod Measures
 pub mod Orderly
 pub mod Numbers
 pub mod RowsFit
@@ -23,3 +34,13 @@ pub mod TablesScanned
 pub mod SourceFormed
 pub mod ColumnsOnce
 pub mod Formed
+pub mod FlagsFit
+pub mod FieldsRead
+pub mod CallsCounted
+pub mod StatsJudged
+pub mod Consecutive
+pub mod CallsFormed
+pub mod GroupingFormed
+pub mod FieldsFormed
+pub mod StatsFormed
+pub mod CommandsFormed

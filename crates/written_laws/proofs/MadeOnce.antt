@@ -9,7 +9,8 @@ use Rattle.esql_types.specs.declared.names.ColId.{ColId}
 use Rattle.esql_plan.specs.declared.plan.OutColumn.{OutColumn}
 use Rattle.plan_semantics.specs.WellFormed.{MadeColumn, made_as, IsMadeAs, IsMade, kind_made}
 use Rattle.row_semantics.specs.Typed.{visible_named}
-use Rattle.query_semantics.specs.Written.{column_at, visible_names, renumbered}
+use Rattle.query_semantics.specs.Writings.{column_at, visible_names}
+use Rattle.query_semantics.specs.Written.{renumbered}
 use Rattle.query_semantics.proofs.Named.{eq_itself}
 use Rattle.query_semantics.proofs.Distinct.{AreDistinct, IsOther, distinct_head, distinct_tail}
 use Rattle.written_laws.proofs.Sources.{eq_above}
@@ -52,7 +53,7 @@ IsOnce made = (id : ColId) (kind : Kind) → IsMadeAs made id kind → kind_made
 pub none_made_once : IsOnce []
 none_made_once id kind there = let less = there.1 in absurd (omega (arith, less))
 
-turned : (n m : ℕ) → n == m ≡ false → m == n ≡ false
+pub turned : (n m : ℕ) → n == m ≡ false → m == n ≡ false
 turned n m other = grind (arith, other)
 
 abbrev pub IsOtherThan : ℕ → MadeColumn → Type 0

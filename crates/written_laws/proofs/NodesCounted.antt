@@ -34,14 +34,14 @@ abbrev pub placed : NodeId → List NodeAt → ℕ
 placed node nodes = count_of (λ (one : NodeAt). one.node.0 == node.0) nodes
 
 module _ (node : NodeId) where
-  placed-append : (xs ys : List NodeAt) → placed node (xs ++ ys) ≡ placed node xs + placed node ys
+  pub placed-append : (xs ys : List NodeAt) → placed node (xs ++ ys) ≡ placed node xs + placed node ys
   placed-append xs ys = count_of-append (λ (one : NodeAt). one.node.0 == node.0) xs ys
 
-  places-append : (xs ys : List NodeId) → places node (xs ++ ys) ≡ places node xs + places node ys
+  pub places-append : (xs ys : List NodeId) → places node (xs ++ ys) ≡ places node xs + places node ys
   places-append xs ys = count_of-append (λ (one : NodeId). one.0 == node.0) xs ys
 
   -- one where the node is this, else none
-  abbrev one_at : NodeId → ℕ
+  abbrev pub one_at : NodeId → ℕ
   one_at own = cond {A = ℕ} (own.0 == node.0) 1 0
 
   in_plan_fewer : (function : Function) (parts : List (Part (List NodeId))) → places node (nodes_in_parts (arguments_in_plan function parts)) ≤ places node (nodes_in_parts parts)
@@ -54,7 +54,7 @@ module _ (node : NodeId) where
   abbrev SeenCounts : NodeId → Span → ℕ → Seen (List NodeId) → Type 0
   SeenCounts own span inner form = places node (spent own span form) ≤ one_at own + inner
 
-  applied_counts : (own : NodeId) (span : Span) (function : Function) (parts : List (Part (List NodeId))) (inner : ℕ) → places node (nodes_in_parts parts) ≤ inner
+  pub applied_counts : (own : NodeId) (span : Span) (function : Function) (parts : List (Part (List NodeId))) (inner : ℕ) → places node (nodes_in_parts parts) ≤ inner
       → SeenCounts own span inner (applied function parts)
   applied_counts own span function parts inner fewer =
       omega (
@@ -64,12 +64,12 @@ module _ (node : NodeId) where
         places-append (nodes_in_parts (arguments_in_plan function parts)) (own ∷ []),
       )
 
-  list_counts : (own : NodeId) (span : Span) (inner : ℕ) (values : List Value) (found : Option Kind) → SeenCounts own span inner (list_in_kind values found span)
+  pub list_counts : (own : NodeId) (span : Span) (inner : ℕ) (values : List Value) (found : Option Kind) → SeenCounts own span inner (list_in_kind values found span)
   list_counts own span inner values (Some kind.Long) = omega arith
   list_counts own span inner values (Some other) = omega arith
   list_counts own span inner values None = omega arith
 
-  constant_counts : (own : NodeId) (span : Span) (inner : ℕ) (cell : List Value) → SeenCounts own span inner (constant_in cell span)
+  pub constant_counts : (own : NodeId) (span : Span) (inner : ℕ) (cell : List Value) → SeenCounts own span inner (constant_in cell span)
   constant_counts own span inner [] = omega arith
   constant_counts own span inner (value ∷ values) = list_counts own span inner (value ∷ values) (kind_of_list (value ∷ values))
 

@@ -3,6 +3,7 @@ use Rattle.std.proofs.Common.{◌≡◌, ℕ, ◌+◌, List, [], ◌∷◌, ◌+
 use Rattle.std.specs.List.{flat_map}
 use Rattle.esql_types.specs.declared.places.Span.{Span}
 use Rattle.esql_types.specs.declared.names.NodeId.{NodeId}
+use Rattle.esql_types.specs.declared.value.Kind.{Kind}
 use Rattle.esql_ast.specs.declared.expr.Expr.{Expr}
 use Rattle.esql_plan.specs.declared.function.Function.{Function}
 use Rattle.esql_plan.specs.declared.plan.OutColumn.{OutColumn}
@@ -10,7 +11,8 @@ use Rattle.esql_plan.specs.declared.typed.TypedExpr.{TypedExpr}
 use Rattle.plan_semantics.specs.WellFormed.{nodes_of}
 use Rattle.plan_semantics.proofs.PartedFolds.{nodes_of_constant, nodes_of_column, nodes_of_call}
 use Rattle.row_semantics.specs.Forms.{Part, Seen, constant, named, same, applied, aggregate, refused, Reader, read_by, function_in_plan, arguments_in_plan}
-use Rattle.row_semantics.specs.Typed.{Visible, CallColumn, Typing, visible_named, call_at, typed_null, typed_column, typed_call, typed_parts, typing, typed_of}
+use Rattle.row_semantics.specs.declared.call.CallColumn.{CallColumn}
+use Rattle.row_semantics.specs.Typed.{Visible, Typing, visible_named, call_at, typed_null, typed_column, typed_call, kind_of_called, typed_parts, typing, typed_of}
 use Rattle.query_semantics.proofs.Readings.{part_with, parts_with, seen_with, read_made}
 use Rattle.query_semantics.proofs.Valued.{arguments_with}
 
@@ -42,9 +44,9 @@ column_nodes : (node : NodeId) (found : Option OutColumn) → nodes_of (typed_co
 column_nodes node None = nodes_of_constant (typed_null node) [] refl
 column_nodes node (Some column) = nodes_of_column (typed_column node (Some column)) column.id refl
 
-call_nodes : (node : NodeId) (found : Option CallColumn) → nodes_of (typed_call node found) ≡ []
-call_nodes node None = nodes_of_constant (typed_null node) [] refl
-call_nodes node (Some call) = nodes_of_column (typed_call node (Some call)) call.id refl
+call_nodes : (node : NodeId) (kind : Kind) (found : Option CallColumn) → nodes_of (typed_call node kind found) ≡ []
+call_nodes node kind None = nodes_of_constant (typed_call node kind None) [] refl
+call_nodes node kind (Some call) = nodes_of_column (typed_call node kind (Some call)) call.id refl
 
 parts_nodes : (parts : List (Part Both)) (visible : Visible) (whole free : ℕ)
     → flat_map nodes_of (typed_parts (parts_with typing_in parts) visible whole free) ≡ nodes_in_parts (parts_with nodes_in parts)
@@ -68,7 +70,7 @@ both_is node span (constant values kind) visible whole free = nodes_of_constant 
 both_is node span (named name) visible whole free = column_nodes node (visible_named visible.columns name)
 both_is node span (same part) visible whole free = part.reading.is visible whole free
 both_is node span (applied function parts) visible whole free = applied_nodes node span function parts visible whole free
-both_is node span (aggregate function star parts) visible whole free = call_nodes node (call_at visible.calls node)
+both_is node span (aggregate function star parts) visible whole free = call_nodes node (kind_of_called function star (parts_with typing_in parts) visible) (call_at visible.calls node)
 both_is node span (refused parts rule at) visible whole free = nodes_of_constant (typed_null node) [] refl
 
 abbrev both : Reader Both

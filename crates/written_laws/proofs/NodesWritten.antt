@@ -1,36 +1,25 @@
--- Each node is as often in the steps of a written plan at most as among the nodes of the query.
-use Rattle.std.proofs.Common.{◌≡◌, ℕ, zero, suc, ◌+◌, ◌≤◌, ◌<◌, ◌==◌, Bool, true, false, cond, List, [], ◌∷◌, ◌++◌, map, length, fold, Option, Some, None, refl, ap, ◌∙◌, arith}
+-- No node is twice in a numbered query, and none from the number of its nodes on is in the steps of its plan.
+use Rattle.std.proofs.Common.{◌≡◌, ℕ, zero, suc, ◌+◌, ◌≤◌, ◌<◌, ◌==◌, Bool, true, false, cond, List, [], ◌∷◌, ◌++◌, map, refl, ap, subst, ◌∙◌, arith}
 use Rattle.std.specs.List.{flat_map, range_with_len}
 use Rattle.std.proofs.lemmas.List.{append-nil}
 use Rattle.esql_types.specs.declared.names.NodeId.{NodeId}
 use Rattle.esql_types.specs.declared.names.ColId.{ColId}
 use Rattle.esql_ast.specs.declared.nodes.NodeAt.{NodeAt}
-use Rattle.esql_ast.specs.declared.expr.Expr.{Expr}
-use Rattle.esql_ast.specs.declared.query.Field.{Field}
 use Rattle.esql_ast.specs.declared.query.Query.{Query}
-use Rattle.esql_ast.specs.declared.query.Command.{Command}
-use Rattle.esql_ast.specs.declared.query.CommandKind.{CommandKind}
-use Rattle.esql_ast.specs.declared.query.CommandKind.TheVariants.{Filter, Eval, Sort, Limit, Expand}
-use Rattle.esql_ast.specs.declared.query.SourceCommand.{SourceCommand}
-use Rattle.esql_ast.specs.declared.query.SourceCommand.TheVariants.{Tables, OneRow}
 use Rattle.esql_ast.specs.Laws.{IsNumbered}
-use Rattle.esql_ast.specs.Nodes.{nodes_of_expr, nodes_of_field, nodes_of_kind, nodes_of_command, nodes_of_source, nodes_of}
+use Rattle.esql_ast.specs.Nodes.{nodes_of_command, nodes_of_source, nodes_of}
 use Rattle.esql_plan.specs.declared.catalog.Catalog.{Catalog}
-use Rattle.esql_plan.specs.declared.plan.OutColumn.{OutColumn}
 use Rattle.esql_plan.specs.declared.step.Step.{Step}
 use Rattle.esql_plan.specs.declared.step.Step.TheVariants as step
+use Rattle.esql_plan.specs.declared.typed.TypedExpr.{TypedExpr}
 use Rattle.plan_semantics.specs.Parts.{count_of}
 use Rattle.plan_semantics.specs.WellFormed.{nodes_of as typed_nodes_of, step_nodes}
-use Rattle.plan_semantics.proofs.Transposed.{count_of-append}
 use Rattle.plan_semantics.proofs.OwnNodes.{places}
-use Rattle.row_semantics.specs.Forms.{read_by}
-use Rattle.row_semantics.specs.Typed.{visible_named}
-use Rattle.query_semantics.specs.Cuts.{last_count}
-use Rattle.query_semantics.specs.Written.{Writing, column_at, typed_in, column_of_typed, write_field, write_fields, write_input_by, write_input, write_keys, keys_in_plan, write_expand_of, write_kind, write_command, write_source, writing_of_columns, writing_of}
-use Rattle.written_laws.proofs.Inputs.{write_inputs}
-use Rattle.written_laws.proofs.Commands.{expr_of_key}
-use Rattle.written_laws.proofs.NodesTyped.{spent, typed_nodes}
-use Rattle.written_laws.proofs.NodesCounted.{placed, expr_counts}
+use Rattle.query_semantics.specs.WrittenStats.{Flag, flag_typed, flagged_typed}
+use Rattle.query_semantics.specs.Written.{writing_of}
+use Rattle.written_laws.proofs.FlagsFit.{flag_nodes, flagged_nodes}
+use Rattle.written_laws.proofs.Measures.{IsMeasure, written_counts}
+use Rattle.written_laws.proofs.NodesCounted.{placed, placed-append, places-append, one_at}
 
 -- the numbers of a query, each once ------------------------------------------------------------------------------------------
 
@@ -69,6 +58,32 @@ once k first (suc count) = here (first == k) refl (once k (first + 1) count)
         let off : cond {A = ℕ} (first == k) 1 0 ≡ 0 = ap (λ (b : Bool). cond {A = ℕ} b 1 0) is in
         omega (arith, off, later)
 
+-- whether there are some
+abbrev some : ℕ → ℕ
+some zero = 0
+some (suc n) = 1
+
+some_few : (n : ℕ) → some n ≤ n
+some_few zero = omega arith
+some_few (suc n) = omega arith
+
+some_once : (n : ℕ) → some n ≤ 1
+some_once zero = omega arith
+some_once (suc n) = omega arith
+
+some_sum : (n m : ℕ) → some (n + m) ≤ some n + m
+some_sum zero m = omega (arith, some_few (0 + m))
+some_sum (suc n) m = omega (arith, some_once (suc n + m))
+
+some_more : (n m own : ℕ) (here : Bool) → (here ≡ true → 1 ≤ n) → own ≡ cond {A = ℕ} here 1 0 → some (n + (m + own)) ≤ some n + m
+some_more zero m own true least is = absurd (omega (arith, least refl))
+some_more (suc n) m own true least is = omega (arith, some_once (suc n + (m + own)))
+some_more n m own false least is = subst (λ (more : ℕ). some (n + more) ≤ some n + m) (let same : m ≡ m + own = omega (arith, is) in same) (some_sum n m)
+
+none_of_some : (n : ℕ) → some n ≤ 0 → n ≤ 0
+none_of_some zero none = omega arith
+none_of_some (suc n) none = absurd (omega (arith, none))
+
 module _ (node : NodeId) where
   -- how often the node is in steps
   abbrev pub in_steps : List Step → ℕ
@@ -79,106 +94,70 @@ module _ (node : NodeId) where
   steps-append (step ∷ these) those =
       omega (
         arith,
-        count_of-append (λ (one : NodeId). one.0 == node.0) (step_nodes step) (flat_map step_nodes (these ++ those)),
-        count_of-append (λ (one : NodeId). one.0 == node.0) (step_nodes step) (flat_map step_nodes these),
+        places-append node (step_nodes step) (flat_map step_nodes (these ++ those)),
+        places-append node (step_nodes step) (flat_map step_nodes these),
         steps-append these those,
       )
-
-  typed_counts : (writing : Writing) (expr : Expr) → places node (typed_nodes_of (typed_in writing expr)) ≤ placed node (nodes_of_expr expr)
-  typed_counts writing expr =
-      let are : places node (typed_nodes_of (typed_in writing expr)) ≡ places node (read_by spent expr) =
-      ap (places node) (typed_nodes expr (record { columns = writing.visible; calls = [] }) (length writing.whole) (length writing.free)) in
-      omega (arith, are, expr_counts node expr)
 
   pushed : (steps : List Step) (step : Step) → in_steps (steps ++ step ∷ []) ≡ in_steps steps + places node (step_nodes step)
   pushed steps step = steps-append steps (step ∷ []) ∙ ap (λ (nodes : List NodeId). in_steps steps + places node nodes) (append-nil (step_nodes step))
 
-  fields_count : (text : List ℕ) (fields : List Field) (writing : Writing)
-      → in_steps (write_fields text fields writing).steps ≤ in_steps writing.steps + placed node (flat_map nodes_of_field fields)
-  fields_count text [] writing = omega arith
-  fields_count text (field ∷ fields) writing =
+  abbrev is_in : List Step → ℕ
+  is_in steps = some (in_steps steps)
+
+  -- the node of a condition is in the step of its column
+  abbrev HasNode : List Step → Flag → Type 0
+  HasNode steps flag = flag.node.0 == node.0 ≡ true → 1 ≤ in_steps steps
+
+  flag_has : (steps : List Step) (flag : Flag) (condition : TypedExpr) → HasNode (steps ++ step.Eval flag.id (flag_typed flag.node condition) ∷ []) flag
+  flag_has steps flag condition is =
+      let one : one_at node flag.node ≡ 1 = ap (λ (b : Bool). cond {A = ℕ} b 1 0) is in
       omega (
         arith,
-        typed_counts writing field.expr,
-        pushed writing.steps (step.Eval (column_at writing.next) (typed_in writing field.expr)),
-        fields_count text fields (write_field text writing field),
-        count_of-append (λ (one : NodeAt). one.node.0 == node.0) (nodes_of_field field) (flat_map nodes_of_field fields),
+        one,
+        pushed steps (step.Eval flag.id (flag_typed flag.node condition)),
+        ap (places node) (flag_nodes flag.node condition),
+        places-append node (typed_nodes_of condition) (flag.node ∷ []),
       )
 
-  -- an input has the nodes of its expression, or none
-  pub input_counts : (writing : Writing) (expr : Expr) → in_steps (write_input writing expr).steps ≤ in_steps writing.steps + placed node (nodes_of_expr expr)
-  input_counts writing expr = by_found (column_of_typed (typed_in writing expr))
-    where
-      by_found : (found : Option ColId) → in_steps (write_input_by found expr writing).steps ≤ in_steps writing.steps + placed node (nodes_of_expr expr)
-      by_found (Some id) = omega arith
-      by_found None = omega (arith, typed_counts writing expr, pushed writing.steps (step.Eval (column_at writing.next) (typed_in writing expr)))
-
-  pub inputs_count : {Item : Type 0} (expr_of : Item → Expr) (items : List Item) (writing : Writing)
-      → in_steps (write_inputs expr_of items writing).steps ≤ in_steps writing.steps + placed node (flat_map (λ (item : Item). nodes_of_expr (expr_of item)) items)
-  inputs_count expr_of [] writing = omega arith
-  inputs_count {Item} expr_of (item ∷ items) writing =
+  flagged_in : (steps : List Step) (flag : Flag) (to : ColId) (argument : TypedExpr) → HasNode steps flag
+      → is_in (steps ++ step.Eval to (flagged_typed flag argument) ∷ []) ≤ is_in steps + places node (typed_nodes_of argument)
+  flagged_in steps flag to argument has =
+      let are : in_steps (steps ++ step.Eval to (flagged_typed flag argument) ∷ []) ≡ in_steps steps + (places node (typed_nodes_of argument) + one_at node flag.node) =
       omega (
         arith,
-        input_counts writing (expr_of item),
-        inputs_count expr_of items (write_input writing (expr_of item)),
-        count_of-append (λ (one : NodeAt). one.node.0 == node.0) (nodes_of_expr (expr_of item)) (flat_map (λ (item : Item). nodes_of_expr (expr_of item)) items),
-      )
+        pushed steps (step.Eval to (flagged_typed flag argument)),
+        ap (places node) (flagged_nodes flag argument),
+        places-append node (typed_nodes_of argument) (flag.node ∷ []),
+      ) in
+      omega (arith, ap some are, some_more (in_steps steps) (places node (typed_nodes_of argument)) (one_at node flag.node) (flag.node.0 == node.0) has refl)
 
-  expand_counts : (name : List ℕ) (writing : Writing) (found : Option OutColumn) → in_steps (write_expand_of found name writing).steps ≤ in_steps writing.steps
-  expand_counts name writing None = omega arith
-  expand_counts name writing (Some column) = omega (arith, pushed writing.steps (step.Expand column.id (column_at writing.next)))
-
-  abbrev one_at : NodeId → ℕ
-  one_at own = cond {A = ℕ} (own.0 == node.0) 1 0
-
-  kind_counts : (text : List ℕ) (own : NodeId) (kind : CommandKind) (writing : Writing)
-      → in_steps (write_kind text own kind writing).steps ≤ in_steps writing.steps + (one_at own + placed node (nodes_of_kind kind))
-  kind_counts text own (Filter condition) writing =
-      omega (
-        arith,
-        typed_counts writing condition,
-        pushed writing.steps (step.Filter own (typed_in writing condition)),
-        count_of-append (λ (one : NodeId). one.0 == node.0) (typed_nodes_of (typed_in writing condition)) (own ∷ []),
-      )
-  kind_counts text own (Eval fields) writing = omega (arith, fields_count text fields writing)
-  kind_counts text own (Limit count) writing = omega (arith, pushed writing.steps (step.Limit count))
-  kind_counts text own (Sort keys) writing = omega (arith, inputs_count expr_of_key keys writing, pushed (write_keys keys writing).steps (step.Sort (keys_in_plan keys writing)))
-  kind_counts text own (Expand column) writing = omega (arith, expand_counts column.name writing (visible_named writing.visible column.name))
-  kind_counts text own other writing = omega arith
-
-  commands_count : (text : List ℕ) (commands : List Command) (writing : Writing)
-      → in_steps (fold (write_command text) writing commands).steps ≤ in_steps writing.steps + placed node (flat_map nodes_of_command commands)
-  commands_count text [] writing = omega arith
-  commands_count text (command ∷ commands) writing =
-      omega (
-        arith,
-        kind_counts text command.node command.kind writing,
-        commands_count text commands (write_command text writing command),
-        count_of-append (λ (one : NodeAt). one.node.0 == node.0) (nodes_of_command command) (flat_map nodes_of_command commands),
-      )
-
-  source_counts : (text : List ℕ) (catalog : Catalog) (source : SourceCommand) → in_steps (write_source text catalog source).steps ≤ placed node (nodes_of_source source)
-  source_counts text catalog (Tables own span tables) = omega arith
-  source_counts text catalog (OneRow own span fields) = omega (arith, fields_count text fields (writing_of_columns []))
-
-  written_counts : (text : List ℕ) (catalog : Catalog) (query : Query) → in_steps (writing_of text catalog query).steps ≤ placed node (nodes_of query)
-  written_counts text catalog query =
-      omega (
-        arith,
-        source_counts text catalog query.source,
-        commands_count text query.commands (write_source text catalog query.source),
-        pushed (fold (write_command text) (write_source text catalog query.source) query.commands).steps (step.Limit (last_count query)),
-        count_of-append (λ (one : NodeAt). one.node.0 == node.0) (nodes_of_source query.source) (flat_map nodes_of_command query.commands),
-      )
+  is_in_measure : IsMeasure node is_in HasNode
+  is_in_measure = record {
+    nothing = omega arith;
+    pushed = λ steps last. omega (arith, ap some (pushed steps last), some_sum (in_steps steps) (places node (step_nodes last)));
+    made = flag_has;
+    kept = λ steps flag to expr below has is. omega (arith, has is, pushed steps (step.Eval to expr));
+    flagged = flagged_in;
+  }
 
   numbered_counts : (query : Query) → IsNumbered query → placed node (nodes_of query) ≡ count_of (λ n. n == node.0) (range_with_len 0 query.nodes)
   numbered_counts query numbered = placed_mapped node (nodes_of query) ∙ ap (count_of (λ n. n == node.0)) numbered
 
-  -- no node is twice in the steps of the plan of a numbered query
-  pub written_once : (text : List ℕ) (catalog : Catalog) (query : Query) → IsNumbered query → in_steps (writing_of text catalog query).steps ≤ 1
-  written_once text catalog query numbered = omega (arith, written_counts text catalog query, numbered_counts query numbered, once node.0 0 query.nodes)
+  -- no node is twice in a numbered query
+  pub nodes_once : (query : Query) → IsNumbered query → placed node (nodes_of query) ≤ 1
+  nodes_once query numbered = omega (arith, numbered_counts query numbered, once node.0 0 query.nodes)
 
-  -- and none from the number of nodes on
+  pub commands_once : (query : Query) → IsNumbered query → placed node (flat_map nodes_of_command query.commands) ≤ 1
+  commands_once query numbered = omega (arith, nodes_once query numbered, placed-append node (nodes_of_source query.source) (flat_map nodes_of_command query.commands))
+
+  -- and none is in the steps of its plan from the number of nodes on
   pub written_below : (text : List ℕ) (catalog : Catalog) (query : Query) → IsNumbered query → query.nodes ≤ node.0 → in_steps (writing_of text catalog query).steps ≤ 0
   written_below text catalog query numbered above =
-      omega (arith, written_counts text catalog query, numbered_counts query numbered, none_behind node.0 0 query.nodes (omega (arith, above)))
+      none_of_some (in_steps (writing_of text catalog query).steps)
+      (omega (
+        arith,
+        written_counts node is_in HasNode is_in_measure text catalog query,
+        numbered_counts query numbered,
+        none_behind node.0 0 query.nodes (omega (arith, above)),
+      ))

@@ -1,14 +1,13 @@
 -- A call by a name has as many arguments as the signature of its function takes, and calls no function with a pattern beside an operator.
 use Rattle.std.proofs.Common.{◌≡◌, ℕ, nat_le, ◌==◌, Bool, true, false, ◌&&◌, List, [], ◌∷◌, length, Option, Some, None, is_some, refl, ap, sym, ◌∙◌, if◌then◌else◌, arith}
-use Rattle.std.specs.List.{list_all}
-use Rattle.std.specs.Str.{str_eq_ignore_ascii_case}
 use Rattle.std.proofs.lemmas.Bool.{and_parts}
 use Rattle.std.proofs.lemmas.Bool.Decides.{nat_tests}
 use Rattle.esql_plan.specs.declared.function.Function.{Function}
 use Rattle.esql_plan.specs.declared.function.Function.TheVariants as function
 use Rattle.esql_plan.specs.declared.names.FunctionRow.{FunctionRow}
-use Rattle.esql_plan.specs.Names.{entry_in, function_names, cast_names, function_named, cast_named}
+use Rattle.esql_plan.specs.Names.{function_names, cast_names, function_named, cast_named}
 use Rattle.esql_plan.specs.Signatures.{signature_of, least_count, most_count, is_at_most, is_count}
+use Rattle.query_semantics.proofs.NamesFound.{found_passes}
 use Rattle.row_semantics.specs.Forms.{Part, is_word, takes, function_in_plan, arguments_in_plan}
 
 -- the pattern beside LIKE and RLIKE is a literal
@@ -22,18 +21,6 @@ HasPattern function parts = Unit {0}
 -- the plan's function has as many arguments as it takes
 abbrev pub IsCount : {A : Type 0} → Function → List (Part A) → Type 0
 IsCount function parts = is_count (signature_of (function_in_plan function parts)).parameters (length (arguments_in_plan function parts)) ≡ true
-
--- what a test finds of each entry of a table it finds of what a name stands for
-found_passes : {Entry : Type 0} (test : Entry → Bool) (entries : List (List ℕ × Entry)) (name : List ℕ) (found : Entry) → list_all (λ (entry : List ℕ × Entry). test entry.1) entries ≡ true
-    → entry_in entries name ≡ Some found → test found ≡ true
-found_passes test [] name found all is = absurd cc
-found_passes {Entry} test (entry ∷ entries) name found all is =
-    let both = and_parts (test entry.1) (list_all (λ (entry : List ℕ × Entry). test entry.1) entries) all in
-    elim (str_eq_ignore_ascii_case name entry.0) as (λ b. (if b then Some entry.1 else entry_in entries name) ≡ Some found → test found ≡ true)
-    [ true ↦ λ here. sym (ap test (some_is entry.1 found here)) ∙ both.0 | false ↦ λ there. found_passes test entries name found both.1 there ] is
-  where
-    some_is : (this that : Entry) → Some this ≡ Some that → this ≡ that
-    some_is this that is = cc
 
 -- calls ----------------------------------------------------------------------------------------------------------------------
 

@@ -2,7 +2,6 @@
 use Rattle.std.proofs.Common.{◌≡◌, ℕ, Bool, true, false, cond, List, [], ◌∷◌, fold, Option, Some, None, Ok, Err, refl, ap, sym, ◌∙◌}
 use Rattle.esql_types.specs.declared.names.Column.{Column}
 use Rattle.esql_types.specs.declared.names.NodeId.{NodeId}
-use Rattle.esql_types.specs.declared.names.ColId.{ColId}
 use Rattle.esql_types.specs.declared.value.Kind.TheVariants as kind
 use Rattle.esql_types.specs.declared.places.Span.{Span}
 use Rattle.esql_ast.specs.declared.expr.Expr.{Expr}
@@ -27,14 +26,13 @@ use Rattle.row_semantics.specs.Columns.{names_of, put_column, column_as}
 use Rattle.row_semantics.specs.Sources.{columns_of_tables, columns_or_none}
 use Rattle.row_semantics.specs.Typed.{visible_named}
 use Rattle.query_semantics.specs.Shapes.{Context, Shape, scope_over, shape_of_field, shape_of_fields, shape_of_condition, unless_unmet, unless_missing, shape_of_keys, shape_of_expand, shape_of_kind, unless_empty, shape_of_command, shape_of_commands, shape_of_source}
-use Rattle.query_semantics.specs.Written.{Writing, typed_in, column_of_typed, write_field, write_fields, write_input_by, write_input, write_keys, write_expand_of, write_kind, write_command, write_source, writing_of_columns}
+use Rattle.query_semantics.specs.Writings.{Writing, typed_in, write_input}
+use Rattle.query_semantics.specs.Written.{write_field, write_fields, write_keys, write_expand_of, write_kind, write_command, write_source, writing_of_columns}
 use Rattle.query_semantics.proofs.Named.{columns_put, columns-kept, columns-left, columns-renamed, columns-renumbered}
 use Rattle.query_semantics.proofs.Kinded.{found_of, ok_is, expr_kinded}
 use Rattle.query_semantics.proofs.Named.{columns_of-numbered}
-
--- the columns that can be seen are these
-abbrev pub Shows : Writing → List Column → Type 0
-Shows writing columns = columns ≡ columns_of writing.visible
+pub use Rattle.written_laws.proofs.StatsShown.{Shows, input_shows}
+use Rattle.written_laws.proofs.StatsShown.{stats_show}
 
 pub unmet_is : (unmet : Option NamePattern) (columns after : List Column) → unless_unmet unmet columns ≡ Ok after → columns ≡ after
 unmet_is None columns after is = ok_is is
@@ -60,7 +58,7 @@ field_shows context field columns after writing shows is =
     let name : List ℕ = name_of_field context.text field in
     let found = found_of (kind_or_rule field.expr scope) (λ kind. Ok (put_column columns name kind)) after is in
     let kinded : (typed_in writing field.expr).kind ≡ found.value =
-    expr_kinded field.expr (record { columns = writing.visible; calls = [] }) scope found.value (record { columns = shows; outside = refl }) found.is _ _ in
+    expr_kinded field.expr (record { columns = writing.visible; calls = [] }) scope found.value shows found.is _ _ in
     sym (ok_is found.next_is)
     ∙ (λ i. put_column (shows i) name (sym kinded i))
     ∙ columns_put writing.visible name (typed_in writing field.expr).kind writing.next
@@ -78,13 +76,6 @@ condition_shows context condition columns after is =
     either_is (is_kind kind.Boolean found.value) _ columns after found.next_is
 
 -- inputs are not seen
-pub input_shows : (columns : List Column) (writing : Writing) (expr : Expr) → Shows writing columns → Shows (write_input writing expr) columns
-input_shows columns writing expr shows = by_found (column_of_typed (typed_in writing expr))
-  where
-    by_found : (found : Option ColId) → Shows (write_input_by found expr writing) columns
-    by_found (Some id) = shows
-    by_found None = shows
-
 keys_show : (keys : List SortKey) (columns : List Column) (writing : Writing) → Shows writing columns → Shows (write_keys keys writing) columns
 keys_show [] columns writing shows = shows
 keys_show (key ∷ keys) columns writing shows = keys_show keys columns (write_input writing key.expr) (input_shows columns writing key.expr shows)
@@ -124,7 +115,7 @@ kind_shows context node (Limit count) columns after writing shows is = sym (ok_i
 kind_shows context node (Sort keys) columns after writing shows is = sym (keys_leave context keys columns after is) ∙ keys_show keys columns writing shows
 kind_shows context node (Expand column) columns after writing shows is =
     sym (expand_leaves column columns after is) ∙ expand_shows column.name columns writing (visible_named writing.visible column.name) shows
-kind_shows context node (Stats fields groups) columns after writing shows is = sym (ok_is is) ∙ shows
+kind_shows context node (Stats fields groups) columns after writing shows is = stats_show context.text context.accepts fields groups columns after writing shows is
 kind_shows context node (Dissect input pattern separator) columns after writing shows is = sym (ok_is is) ∙ shows
 kind_shows context node (Grok input pattern) columns after writing shows is = sym (ok_is is) ∙ shows
 kind_shows context node (Enrich policy on fields) columns after writing shows is = sym (ok_is is) ∙ shows

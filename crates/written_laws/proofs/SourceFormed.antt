@@ -14,7 +14,8 @@ use Rattle.plan_semantics.specs.WellFormed.{MadeColumn, made_as, source_made, Bo
 use Rattle.row_semantics.specs.Sources.{tables_named, columns_of_tables, columns_or_none}
 use Rattle.query_semantics.specs.Catalogs.{IsCatalog}
 use Rattle.query_semantics.specs.Shapes.{Context, shape_of_source, unless_empty}
-use Rattle.query_semantics.specs.Written.{column_at, numbered_from, scan_column, writing_of_columns, source_in_plan, write_source}
+use Rattle.query_semantics.specs.Writings.{column_at}
+use Rattle.query_semantics.specs.Written.{numbered_from, scan_column, writing_of_columns, source_in_plan, write_source}
 use Rattle.query_semantics.proofs.Named.{IsBelow, eq_below}
 use Rattle.query_semantics.proofs.Kinded.{found_of}
 use Rattle.written_laws.proofs.Sources.{IsFrom, all_from, all_below}
@@ -43,7 +44,7 @@ later_ids : (n next : ℕ) (columns : List Column) → n < next → AllByRecursi
 later_ids n next [] less = tt
 later_ids n next (column ∷ columns) less = (eq_below n next less, later_ids n (next + 1) columns (omega (arith, less)))
 
-none_once : IsDistinct (λ (this that : ℕ). this == that) []
+pub none_once : IsDistinct (λ (this that : ℕ). this == that) []
 unfolding IsDistinct
 none_once = tt
 

@@ -21,7 +21,8 @@ use Rattle.query_semantics.specs.Written.{numbered_from, scan_column, writing_of
 use Rattle.query_semantics.specs.Named.{named_cell, named_row}
 use Rattle.query_semantics.proofs.Squares.{map_all, map_map, map_same, flat_map_same, map-flat_map}
 use Rattle.query_semantics.proofs.Named.{IsBelow, AllBelow, eq_itself}
-use Rattle.written_laws.proofs.Commands.{Stands, fields_stand}
+use Rattle.written_laws.proofs.Commands.{fields_stand}
+use Rattle.written_laws.proofs.Standing.{Stands}
 
 pub eq_above : (m n : ℕ) → m < n → n == m ≡ false
 eq_above m n above = grind arith

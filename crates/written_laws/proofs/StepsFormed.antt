@@ -1,5 +1,5 @@
 -- Each command writes steps that are well formed over the columns that are made before them.
-use Rattle.std.proofs.Common.{◌≡◌, ℕ, ◌+◌, ◌≤◌, ◌<◌, Bool, true, false, cond, not, List, [], ◌∷◌, ◌++◌, map, filter, length, fold, All, Contains, Option, Some, None, Ok, Err, refl, ap, sym, subst, ◌∙◌, arith}
+use Rattle.std.proofs.Common.{◌≡◌, ℕ, ◌+◌, ◌≤◌, ◌<◌, Bool, true, false, cond, not, List, [], ◌∷◌, ◌++◌, map, filter, length, All, Contains, Option, Some, None, Ok, Err, refl, ap, sym, subst, ◌∙◌, arith}
 use Rattle.std.specs.List.{flat_map}
 use Rattle.std.specs.Str.{bytes_eq}
 use Rattle.std.proofs.lemmas.Grind.{flat_map-append}
@@ -13,9 +13,6 @@ use Rattle.esql_types.specs.declared.names.ColId.{ColId}
 use Rattle.esql_ast.specs.declared.expr.Expr.{Expr}
 use Rattle.esql_ast.specs.declared.query.Field.{Field}
 use Rattle.esql_ast.specs.declared.query.SortKey.{SortKey}
-use Rattle.esql_ast.specs.declared.query.Command.{Command}
-use Rattle.esql_ast.specs.declared.query.CommandKind.{CommandKind}
-use Rattle.esql_ast.specs.declared.query.CommandKind.TheVariants.{Filter, Eval, Keep, Drop, Rename, Sort, Limit, Expand}
 use Rattle.esql_plan.specs.declared.plan.OutColumn.{OutColumn}
 use Rattle.esql_plan.specs.declared.step.PlanKey.{PlanKey}
 use Rattle.esql_plan.specs.declared.step.Step.{Step}
@@ -29,17 +26,17 @@ use Rattle.row_semantics.specs.Kinds.{kind_or_rule}
 use Rattle.row_semantics.specs.Fields.{name_of_field}
 use Rattle.row_semantics.specs.Columns.{put_column, HaveDistinctNames, names_of}
 use Rattle.row_semantics.specs.Typed.{visible_named, typing_of}
-use Rattle.query_semantics.specs.Shapes.{Context, Shape, scope_over, shape_of_field, shape_of_fields, shape_of_condition, shape_of_keys, shape_of_kind, shape_of_command, shape_of_commands, unless_empty}
-use Rattle.query_semantics.specs.Written.{Writing, column_at, typed_in, visible_names, put_visible, column_of_typed, write_field, write_fields, write_condition, write_limit, write_input_by, write_input, input_by, input_of, write_keys, keys_in_plan, write_sort, renumbered, write_expand_of, write_kind, write_command}
-use Rattle.query_semantics.proofs.Squares.{All-at_places, All-renamed_by}
+use Rattle.query_semantics.specs.Shapes.{Context, Shape, scope_over, shape_of_field, shape_of_fields, shape_of_condition, shape_of_keys}
+use Rattle.query_semantics.specs.Writings.{Writing, column_at, typed_in, visible_names, put_visible, column_of_typed, write_input_by, write_input, input_by, input_of}
+use Rattle.query_semantics.specs.WrittenStats.{write_typed}
+use Rattle.query_semantics.specs.Written.{write_field, write_fields, write_condition, write_limit, write_keys, keys_in_plan, write_sort, renumbered, write_expand_of}
 use Rattle.query_semantics.proofs.Kinded.{found_of, expr_kinded}
 use Rattle.query_semantics.proofs.Distinct.{AreDistinct}
 use Rattle.query_semantics.proofs.Inputs.{column_read}
 use Rattle.query_semantics.proofs.Named.{names_of-columns}
 use Rattle.written_laws.proofs.Inputs.{write_inputs}
 use Rattle.written_laws.proofs.Commands.{expr_of_key}
-use Rattle.written_laws.proofs.Shown.{Shows, empty_is, field_shows, input_shows, command_shows}
-use Rattle.written_laws.proofs.Apart.{same_distinct, kind_distinct}
+use Rattle.written_laws.proofs.Shown.{Shows, field_shows, input_shows}
 use Rattle.written_laws.proofs.Numbers.{HasAt, at-append}
 use Rattle.written_laws.proofs.ExprsFit.{expr_fits}
 use Rattle.written_laws.proofs.ColumnsTyped.{OutIsMade, ReadIsMade, over, typed_reads}
@@ -63,11 +60,11 @@ pub record IsFormed (made : List MadeColumn) (first : ℕ) (writing : Writing) :
 
 -- a step at the end -----------------------------------------------------------------------------------------------------------
 
-steps_made-push : (made : List MadeColumn) (steps : List Step) (last : Step) → steps_made made (steps ++ last ∷ []) ≡ step_made (steps_made made steps) last
+pub steps_made-push : (made : List MadeColumn) (steps : List Step) (last : Step) → steps_made made (steps ++ last ∷ []) ≡ step_made (steps_made made steps) last
 steps_made-push made [] last = refl
 steps_made-push made (first ∷ steps) last = steps_made-push (step_made made first) steps last
 
-steps_stand-push : (bounds : Bounds) (made : List MadeColumn) (steps : List Step) (last : Step) → StepsStand bounds [] made steps → StepStands bounds (steps_made made steps) last
+pub steps_stand-push : (bounds : Bounds) (made : List MadeColumn) (steps : List Step) (last : Step) → StepsStand bounds [] made steps → StepStands bounds (steps_made made steps) last
     → StepsStand bounds [] made (steps ++ last ∷ [])
 steps_stand-push bounds made [] last stand own = (own, All-nil (OutIsMade (step_made made last)))
 steps_stand-push bounds made (first ∷ steps) last stand own = (stand.0, steps_stand-push bounds (step_made made first) steps last stand.1 own)
@@ -78,7 +75,7 @@ pub steps_show : (bounds : Bounds) (output : List OutColumn) (made : List MadeCo
 steps_show bounds output made [] stand all = all
 steps_show bounds output made (step ∷ steps) stand all = (stand.0, steps_show bounds output (step_made made step) steps stand.1 all)
 
-number_behind : (patterns these those : List (List ℕ)) → HasAt patterns 0 (these ++ those) → HasAt patterns (length these) those
+pub number_behind : (patterns these those : List (List ℕ)) → HasAt patterns 0 (these ++ those) → HasAt patterns (length these) those
 number_behind patterns these those at = subst (λ (n : ℕ). HasAt patterns n those) (same (length these)) (at-append patterns 0 these those at).1
   where
     same : (n : ℕ) → 0 + n ≡ n
@@ -89,7 +86,7 @@ module _ (made : List MadeColumn) (first : ℕ) (writing : Writing) (formed : Is
   so_far = steps_made made writing.steps
 
   -- the nodes of the steps before and of a step at the end
-  split_nodes : (nodes : ℕ) (last : Step) → All (IsNodeBelow nodes) (flat_map step_nodes (writing.steps ++ last ∷ []))
+  pub split_nodes : (nodes : ℕ) (last : Step) → All (IsNodeBelow nodes) (flat_map step_nodes (writing.steps ++ last ∷ []))
       → All (IsNodeBelow nodes) (flat_map step_nodes writing.steps) × All (IsNodeBelow nodes) (step_nodes last)
   split_nodes nodes last all =
       let parts = All-same (IsNodeBelow nodes) _ _ (sym (flat_map-append step_nodes writing.steps (last ∷ []))) all in (
@@ -98,21 +95,22 @@ module _ (made : List MadeColumn) (first : ℕ) (writing : Writing) (formed : Is
       )
 
   -- an expression over the columns that can be seen
-  expr_stands : (context : Context) (columns : List Column) (expr : Expr) (kind : Kind) → Shows writing columns → kind_or_rule expr (scope_over context columns) ≡ Ok kind
+  pub expr_stands : (context : Context) (columns : List Column) (expr : Expr) (kind : Kind) → Shows writing columns → kind_or_rule expr (scope_over context columns) ≡ Ok kind
       → (bounds : Bounds) → HasAt bounds.whole 0 (writing.whole ++ (typing_of expr).whole) → HasAt bounds.free 0 (writing.free ++ (typing_of expr).free)
       → All (IsNodeBelow bounds.nodes) (nodes_of (typed_in writing expr)) → ExprStands bounds so_far (typed_in writing expr)
   expr_stands context columns expr kind shows is bounds whole free nodes = record {
-    fits = expr_fits expr (over writing.visible) (scope_over context columns) kind (record { columns = shows; outside = refl }) is (length writing.whole) (length writing.free) bounds.whole bounds.free
+    fits = expr_fits expr (over writing.visible) (scope_over context columns) kind shows is (length writing.whole) (length writing.free) bounds.whole bounds.free
         (number_behind bounds.whole writing.whole (typing_of expr).whole whole) (number_behind bounds.free writing.free (typing_of expr).free free);
     reads = typed_reads expr so_far writing.visible formed.columns.seen (length writing.whole) (length writing.free);
     nodes = nodes;
   }
 
-  -- an expression makes a column
-  pub eval_formed : (context : Context) (columns : List Column) (expr : Expr) (kind : Kind) → Shows writing columns → kind_or_rule expr (scope_over context columns) ≡ Ok kind
-      → IsFormed made first (write_input_by None expr writing)
-  eval_formed context columns expr kind shows is =
-      let typed : TypedExpr = typed_in writing expr in
+  -- a typed expression makes a column that cannot be seen
+  pub typed_formed : (expr : Expr) (typed : TypedExpr)
+      → ((bounds : Bounds) → HasAt bounds.whole 0 (writing.whole ++ (typing_of expr).whole) → HasAt bounds.free 0 (writing.free ++ (typing_of expr).free)
+      → All (IsNodeBelow bounds.nodes) (nodes_of typed) → ExprStands bounds so_far typed)
+      → IsFormed made first (write_typed writing expr typed)
+  typed_formed expr typed stands =
       let last : Step = step.Eval (column_at writing.next) typed in
       record {
         columns = subst (λ (these : List MadeColumn). AreMade these (writing.next + 1) writing.visible) (sym (steps_made-push made writing.steps last))
@@ -127,22 +125,38 @@ module _ (made : List MadeColumn) (first : ℕ) (writing : Writing) (formed : Is
               nodes = nodes.0;
             } in
             steps_stand-push bounds made writing.steps last (formed.stand bounds before)
-            (expr_stands context columns expr kind shows is bounds within.whole within.free nodes.1, record { new = made_other so_far writing.next formed.columns.below; below = omega (arith, within.next) });
+            (stands bounds within.whole within.free nodes.1, record { new = made_other so_far writing.next formed.columns.below; below = omega (arith, within.next) });
       }
+
+  -- the column of a typed expression is made, and no other is lost
+  pub typed_made : (expr : Expr) (typed : TypedExpr) → IsMadeAs (steps_made made (write_typed writing expr typed).steps) (column_at writing.next) typed.kind
+  typed_made expr typed =
+      subst (λ (these : List MadeColumn). IsMadeAs these (column_at writing.next) typed.kind) (sym (steps_made-push made writing.steps (step.Eval (column_at writing.next) typed)))
+      (made_first (made_as (column_at writing.next) typed.kind) so_far)
+
+  pub typed_kept : (expr : Expr) (typed : TypedExpr) (column : MadeColumn) → Contains so_far column → Contains (steps_made made (write_typed writing expr typed).steps) column
+  typed_kept expr typed column there =
+      subst (λ (these : List MadeColumn). Contains these column) (sym (steps_made-push made writing.steps (step.Eval (column_at writing.next) typed)))
+      (made_later (made_as (column_at writing.next) typed.kind) so_far column there)
+
+  -- an expression makes a column
+  pub eval_formed : (context : Context) (columns : List Column) (expr : Expr) (kind : Kind) → Shows writing columns → kind_or_rule expr (scope_over context columns) ≡ Ok kind
+      → IsFormed made first (write_input_by None expr writing)
+  eval_formed context columns expr kind shows is = typed_formed expr (typed_in writing expr) (expr_stands context columns expr kind shows is)
 
   either_true : (truth : Bool) (broken : Broken) (columns after : List Column) → ◌≡◌ {A = Shape} (cond truth (Ok columns) (Err broken)) (Ok after) → truth ≡ true
   either_true true broken columns after is = refl
   either_true false broken columns after is = absurd cc
 
   -- WHERE
-  condition_formed : (context : Context) (columns after : List Column) (node : NodeId) (condition : Expr) → Shows writing columns
+  pub condition_formed : (context : Context) (columns after : List Column) (node : NodeId) (condition : Expr) → Shows writing columns
       → shape_of_condition context condition columns ≡ Ok after → IsFormed made first (write_condition node condition writing)
   condition_formed context columns after node condition shows is =
       let typed : TypedExpr = typed_in writing condition in
       let last : Step = step.Filter node typed in
       let found = found_of (kind_or_rule condition (scope_over context columns)) _ after is in
       let kinded : typed.kind ≡ found.value =
-      expr_kinded condition (over writing.visible) (scope_over context columns) found.value (record { columns = shows; outside = refl }) found.is (length writing.whole) (length writing.free) in
+      expr_kinded condition (over writing.visible) (scope_over context columns) found.value shows found.is (length writing.whole) (length writing.free) in
       let are : steps_made made (writing.steps ++ last ∷ []) ≡ so_far = steps_made-push made writing.steps last in
       record {
         columns = subst (λ (these : List MadeColumn). AreMade these writing.next writing.visible) (sym are) formed.columns;
@@ -257,14 +271,11 @@ input_formed made first context columns expr writing formed shows some = by_foun
           input = All-head (ReadIsMade (steps_made made writing.steps)) (record { id = id; kind = typed.kind }) [] (All-same (ReadIsMade (steps_made made writing.steps)) _ _ (sym (column_read typed id is)) reads);
           kept = λ column there. there;
         }
-    by_found None is =
-        let new : MadeColumn = made_as (column_at writing.next) typed.kind in
-        let are = sym (steps_made-push made writing.steps (step.Eval (column_at writing.next) typed)) in
-        record {
-          formed = eval_formed made first writing formed context columns expr some.kind shows some.is;
-          input = subst (λ (these : List MadeColumn). Contains these new) are (made_first new (steps_made made writing.steps));
-          kept = λ column there. subst (λ (these : List MadeColumn). Contains these column) are (made_later new (steps_made made writing.steps) column there);
-        }
+    by_found None is = record {
+      formed = eval_formed made first writing formed context columns expr some.kind shows some.is;
+      input = typed_made made first writing formed expr typed;
+      kept = typed_kept made first writing formed expr typed;
+    }
 
 module _ {Item : Type 0} (expr_of : Item → Expr) where
   -- the columns of inputs in turn are made, with the kinds of the expressions
@@ -305,7 +316,7 @@ keys_made made (key ∷ keys) writing inputs =
     All-cons (λ (key : PlanKey). IsMade made key.id) _ (keys_in_plan keys (write_input writing key.expr)) (is_made made (input_of writing key.expr) (typed_in writing key.expr).kind inputs.0)
     (keys_made made keys (write_input writing key.expr) inputs.1)
 
-sort_formed : (made : List MadeColumn) (first : ℕ) (context : Context) (keys : List SortKey) (columns after : List Column) (writing : Writing) → IsFormed made first writing → Shows writing columns
+pub sort_formed : (made : List MadeColumn) (first : ℕ) (context : Context) (keys : List SortKey) (columns after : List Column) (writing : Writing) → IsFormed made first writing → Shows writing columns
     → shape_of_keys context keys columns ≡ Ok after → IsFormed made first (write_sort keys writing)
 sort_formed made first context keys columns after writing formed shows is =
     let inputs = inputs_formed expr_of_key made first context columns keys writing formed shows (keys_kinds context keys columns after is) in
@@ -324,34 +335,5 @@ fields_formed made first context (field ∷ fields) columns after writing formed
     (field_shows context field columns found.value writing shows found.is)
     found.next_is
 
-distinct_seen : (columns : List Column) (writing : Writing) → Shows writing columns → HaveDistinctNames columns → AreDistinct (visible_names writing.visible)
+pub distinct_seen : (columns : List Column) (writing : Writing) → Shows writing columns → HaveDistinctNames columns → AreDistinct (visible_names writing.visible)
 distinct_seen columns writing shows distinct = subst AreDistinct (ap names_of shows ∙ names_of-columns writing.visible) distinct
-
-kind_formed : (made : List MadeColumn) (first : ℕ) (context : Context) (node : NodeId) (kind : CommandKind) (columns after : List Column) (writing : Writing) → IsFormed made first writing → Shows writing columns
-    → HaveDistinctNames columns → shape_of_kind context kind columns ≡ Ok after → IsFormed made first (write_kind context.text node kind writing)
-kind_formed made first context node (Filter condition) columns after writing formed shows distinct is = condition_formed made first writing formed context columns after node condition shows is
-kind_formed made first context node (Eval fields) columns after writing formed shows distinct is = fields_formed made first context fields columns after writing formed shows is
-kind_formed made first context node (Keep patterns) columns after writing formed shows distinct is =
-    seen_formed made first writing formed _ (All-at_places (OutIsMade (steps_made made writing.steps)) _ writing.visible formed.columns.seen)
-kind_formed made first context node (Drop patterns) columns after writing formed shows distinct is =
-    seen_formed made first writing formed _ (All-at_places (OutIsMade (steps_made made writing.steps)) _ writing.visible formed.columns.seen)
-kind_formed made first context node (Rename pairs) columns after writing formed shows distinct is =
-    seen_formed made first writing formed _ (All-renamed_by (OutIsMade (steps_made made writing.steps)) _ (λ name column there. there) _ writing.visible formed.columns.seen)
-kind_formed made first context node (Limit count) columns after writing formed shows distinct is = limit_formed made first writing formed count
-kind_formed made first context node (Sort keys) columns after writing formed shows distinct is = sort_formed made first context keys columns after writing formed shows is
-kind_formed made first context node (Expand column) columns after writing formed shows distinct is =
-    expand_formed made first writing formed column.name (visible_named writing.visible column.name) refl (distinct_seen columns writing shows distinct)
-kind_formed made first context node other columns after writing formed shows distinct is = formed
-
--- commands in turn
-pub commands_formed : (made : List MadeColumn) (first : ℕ) (context : Context) (commands : List Command) (columns after : List Column) (writing : Writing) → IsFormed made first writing → Shows writing columns
-    → HaveDistinctNames columns → shape_of_commands context commands columns ≡ Ok after → IsFormed made first (fold (write_command context.text) writing commands)
-commands_formed made first context [] columns after writing formed shows distinct is = formed
-commands_formed made first context (command ∷ commands) columns after writing formed shows distinct is =
-    let found = found_of (shape_of_command context command columns) (shape_of_commands context commands) after is in
-    let own = found_of (shape_of_kind context command.kind columns) (unless_empty command.span) found.value found.is in
-    commands_formed made first context commands found.value after (write_command context.text writing command)
-    (kind_formed made first context command.node command.kind columns own.value writing formed shows distinct own.is)
-    (command_shows context command columns found.value writing shows found.is)
-    (same_distinct own.value found.value (empty_is command.span own.value found.value own.next_is) (kind_distinct context command.kind columns own.value distinct own.is))
-    found.next_is

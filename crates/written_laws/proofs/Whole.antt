@@ -15,7 +15,8 @@ use Rattle.query_semantics.specs.Commands.{cells_of}
 use Rattle.query_semantics.specs.Cuts.{last_count}
 use Rattle.query_semantics.specs.Meaning.{meaning_of, shown_under}
 use Rattle.query_semantics.specs.Shapes.{Context, shape_of, shape_of_source, shape_of_commands}
-use Rattle.query_semantics.specs.Written.{Writing, source_in_plan, write_source, writing_of, written_of}
+use Rattle.query_semantics.specs.Writings.{Writing}
+use Rattle.query_semantics.specs.Written.{source_in_plan, write_source, writing_of, written_of}
 use Rattle.query_semantics.specs.Named.{named_row}
 use Rattle.query_semantics.proofs.Squares.{map_map, map_same}
 use Rattle.query_semantics.proofs.Named.{cells_of-named}
@@ -23,24 +24,27 @@ use Rattle.query_semantics.proofs.Kinded.{found_of}
 use Rattle.written_laws.proofs.Commands.{commands_stand, limit_stands}
 use Rattle.written_laws.proofs.Sources.{source_stands}
 use Rattle.written_laws.proofs.Shown.{source_shows, commands_show}
+use Rattle.written_laws.proofs.StatsWhole.{query_whole}
 
 -- the rows that the source of the written plan gives
 abbrev pub start_of : List TableHeld → Catalog → Query → List NumberedRow
 start_of tables catalog query = source_rows tables (source_in_plan catalog query.source)
 
--- the rows and the failures; a broken rule makes no difference here
-pub rows_are : (text : List ℕ) (tables : List TableHeld) (catalog : Catalog) (query : Query) → catalog.tables ≡ catalog_tables tables
+-- the rows and the failures
+pub rows_are : (text : List ℕ) (tables : List TableHeld) (catalog : Catalog) (query : Query) (columns : List Column) → catalog.tables ≡ catalog_tables tables → shape_of text catalog query ≡ Ok columns
     → (meaning_of text tables query).rows ≡ map (named_row (writing_of text catalog query).visible) (rows_after (writing_of text catalog query).steps (start_of tables catalog query))
-rows_are text tables catalog query is =
+rows_are text tables catalog query columns tables_are is =
     let start : List NumberedRow = start_of tables catalog query in
-    let stand = commands_stand text start query.commands _ _ _ (source_stands text tables catalog query.source is) in
+    let whole = query_whole text catalog query columns is in
+    let stand = commands_stand text start query.commands whole _ _ _ (source_stands text tables catalog query.source tables_are) in
     (limit_stands start _ _ _ stand text (record { 0 = 0 }) (last_count query)).rows_are
 
-pub failures_are : (text : List ℕ) (tables : List TableHeld) (catalog : Catalog) (query : Query) → catalog.tables ≡ catalog_tables tables
+pub failures_are : (text : List ℕ) (tables : List TableHeld) (catalog : Catalog) (query : Query) (columns : List Column) → catalog.tables ≡ catalog_tables tables → shape_of text catalog query ≡ Ok columns
     → (meaning_of text tables query).failures ≡ (plan_means (written_of text catalog query).plan tables).failures
-failures_are text tables catalog query is =
+failures_are text tables catalog query columns tables_are is =
     let start : List NumberedRow = start_of tables catalog query in
-    let stand = commands_stand text start query.commands _ _ _ (source_stands text tables catalog query.source is) in
+    let whole = query_whole text catalog query columns is in
+    let stand = commands_stand text start query.commands whole _ _ _ (source_stands text tables catalog query.source tables_are) in
     sym (append-nil (meaning_of text tables query).failures) ∙ (limit_stands start _ _ _ stand text (record { 0 = 0 }) (last_count query)).failures_are
 
 -- the columns, where no rule is broken
@@ -57,11 +61,11 @@ pub plan_is_meaning : (text : List ℕ) (tables : List TableHeld) (catalog : Cat
 plan_is_meaning text tables catalog query columns tables_are is =
     let writing : Writing = writing_of text catalog query in
     let after : List NumberedRow = rows_after writing.steps (start_of tables catalog query) in
-    let rows = ap (map cells_of) (rows_are text tables catalog query tables_are)
+    let rows = ap (map cells_of) (rows_are text tables catalog query columns tables_are is)
     ∙ map_map cells_of (named_row writing.visible) after
     ∙ map_same (λ (row : NumberedRow). cells_of (named_row writing.visible row)) (shown_row writing.visible) (cells_of-named writing.visible) after in
     let columns_is = columns_are text catalog query columns is in
-    let failures = failures_are text tables catalog query tables_are in
+    let failures = failures_are text tables catalog query columns tables_are is in
     λ i. record { columns = sym columns_is i; rows = sym rows i; failures = sym failures i }
 
 pub plan_agrees : (text : List ℕ) (tables : List TableHeld) (catalog : Catalog) (query : Query) (columns : List Column) → catalog.tables ≡ catalog_tables tables
