@@ -14,7 +14,6 @@ use Rattle.esql_plan.specs.declared.function.Function.{Function}
 use Rattle.esql_plan.specs.declared.function.Function.TheVariants as function
 use Rattle.esql_plan.specs.declared.function.AggFunction.{AggFunction}
 use Rattle.esql_plan.specs.declared.names.FunctionRow.{FunctionRow}
-use Rattle.esql_plan.specs.declared.plan.OutColumn.{OutColumn}
 use Rattle.esql_plan.specs.Names.{entry_in, function_names, function_named}
 use Rattle.text_match.specs.declared.patterns.Patterns.{Patterns}
 use Rattle.row_semantics.specs.declared.rule.NameRule.TheVariants as rule
@@ -27,7 +26,7 @@ use Rattle.expression_analysis.specs.declared.error.AnalyzeError.{AnalyzeError}
 use Rattle.expression_analysis.specs.declared.error.AnalyzeError.TheVariants as error
 use Rattle.expression_analysis.specs.Answers.{regulars_in, regulars_of_parts}
 use Rattle.expression_analysis.specs.Calls.{takes_few, FewAreTaken}
-use Rattle.expression_analysis.specs.Steps.{Marks, Gives, IsErrorOf, IsAnswer, Readings, readings_at, judgement_over, applied_to, typings, judgeds, regular_parts, kinds_judgement}
+use Rattle.expression_analysis.specs.Steps.{Marks, Over, Gives, IsErrorOf, IsAnswer, Readings, readings_at, judgement_over, applied_to, typings, judgeds, regular_parts, kinds_judgement}
 use Rattle.expression_analysis.proofs.Judgements.{error_first}
 use Rattle.expression_analysis.proofs.Completed.{parts_error}
 
@@ -94,18 +93,18 @@ abbrev pub cast_readings : NodeId → Span → Option Function → Expr → Span
 cast_readings node span found arg at = readings_at node span (cast_by found (part_of typing arg) at) (cast_by found (part_of judged arg) at) (cast_by found (part_of regulars_in arg) at)
 
 -- an error of the argument is one of the conversion
-pub cast_error : (columns : List OutColumn) (node : NodeId) (span : Span) (found : Option Function) (arg : Expr) (at : Span) (before after : Marks) (error : AnalyzeError)
-    → IsErrorOf (kinds_judgement columns (arg ∷ [])) (regulars_of_parts (regular_parts (arg ∷ []))) before after error
-    → IsErrorOf (judgement_over columns (cast_readings node span found arg at).judged) (cast_readings node span found arg at).regulars before after error
-cast_error columns node span (Some written) arg at before after error is = parts_error columns (arg ∷ []) node span written before after error is
-cast_error columns node span None arg at before after error is =
-    subst (λ (these : List Regular). IsErrorOf (judgement_over columns (cast_readings node span None arg at).judged) these before after error) (append-nil (regulars_of_parts (regular_parts (arg ∷ []))))
-    (error_first (List Kind) Kind (kinds_judgement columns (arg ∷ [])) (λ kinds accepts. breaks rule.BadKind at) (regulars_of_parts (regular_parts (arg ∷ []))) [] before after error is)
+pub cast_error : (over : Over) (node : NodeId) (span : Span) (found : Option Function) (arg : Expr) (at : Span) (before after : Marks) (error : AnalyzeError)
+    → IsErrorOf (kinds_judgement over (arg ∷ [])) (regulars_of_parts (regular_parts (arg ∷ []))) before after error
+    → IsErrorOf (judgement_over over (cast_readings node span found arg at).judged) (cast_readings node span found arg at).regulars before after error
+cast_error over node span (Some written) arg at before after error is = parts_error over (arg ∷ []) node span written before after error is
+cast_error over node span None arg at before after error is =
+    subst (λ (these : List Regular). IsErrorOf (judgement_over over (cast_readings node span None arg at).judged) these before after error) (append-nil (regulars_of_parts (regular_parts (arg ∷ []))))
+    (error_first (List Kind) Kind (kinds_judgement over (arg ∷ [])) (λ kinds accepts. breaks rule.BadKind at) (regulars_of_parts (regular_parts (arg ∷ []))) [] before after error is)
 
 -- a name that is no kind, behind an argument that breaks no rule
-pub cast_refused : (columns : List OutColumn) (node : NodeId) (span : Span) (arg : Expr) (at : Span) (old new : Patterns) (before after : Marks) (kinds : List Kind) → Gives (kinds_judgement columns (arg ∷ [])) kinds → after ≡ before
-    → IsAnswer (cast_readings node span None arg at) columns old new before after (Err (error.Broken rule.BadKind at))
-cast_refused columns node span arg at old new before after kinds gives same =
+pub cast_refused : (over : Over) (node : NodeId) (span : Span) (arg : Expr) (at : Span) (old new : Patterns) (before after : Marks) (kinds : List Kind) → Gives (kinds_judgement over (arg ∷ [])) kinds → after ≡ before
+    → IsAnswer (cast_readings node span None arg at) over old new before after (Err (error.Broken rule.BadKind at))
+cast_refused over node span arg at old new before after kinds gives same =
     (ap (λ (told : Result (List Kind) Broken). and_then told (λ (these : List Kind). breaks {A = Kind} rule.BadKind at)) gives.accepted, same)
 
 -- calls --------------------------------------------------------------------------------------------------------------------------------

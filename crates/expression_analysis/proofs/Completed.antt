@@ -7,8 +7,8 @@ use Rattle.esql_types.specs.declared.value.Kind.{Kind}
 use Rattle.esql_ast.specs.declared.expr.Expr.{Expr}
 use Rattle.esql_plan.specs.declared.function.Function.{Function}
 use Rattle.esql_plan.specs.declared.function.Function.TheVariants as function
-use Rattle.esql_plan.specs.declared.plan.OutColumn.{OutColumn}
 use Rattle.esql_plan.specs.declared.typed.TypedExpr.{TypedExpr}
+use Rattle.esql_plan.specs.Signatures.{kind_of_call}
 use Rattle.text_match.specs.declared.patterns.Patterns.{Patterns}
 use Rattle.row_semantics.specs.Forms.{Part, Reader, part_of, is_word, function_in_plan, arguments_in_plan}
 use Rattle.row_semantics.specs.Kinds.{Judged, judged, wrong_literal, regular_of, kind_of_applied}
@@ -16,10 +16,11 @@ use Rattle.row_semantics.specs.Regulars.{Regular}
 use Rattle.row_semantics.specs.Typed.{Typing, Visible, typing, typed_parts, typed_apply, whole_of, free_of, pattern_number}
 use Rattle.expression_analysis.specs.declared.error.AnalyzeError.{AnalyzeError}
 use Rattle.expression_analysis.specs.declared.parts.Parts.{Parts}
-use Rattle.expression_analysis.specs.Answers.{visible_of, scope_of, regulars_in, regulars_in_option, regulars_of_parts}
+use Rattle.expression_analysis.specs.Answers.{regulars_in, regulars_in_option, regulars_of_parts}
 use Rattle.expression_analysis.specs.Calls.{parts_at, second_literal, own_kind, takes_few}
-use Rattle.expression_analysis.specs.Steps.{Marks, Judgement, IsErrorOf, IsTyped, IsAnswer, judgement_over, applied_to, literal_of_expr, typings, judgeds, regular_parts, wholes, frees, kinds_in, kinds_judgement, AreTyped, own_whole, own_free, own_regulars, IsCompleted, IsCompletion}
+use Rattle.expression_analysis.specs.Steps.{Marks, Over, visible_over, scope_over, Judgement, IsErrorOf, IsTyped, IsAnswer, judgement_over, applied_to, literal_of_expr, typings, judgeds, regular_parts, wholes, frees, kinds_in, kinds_judgement, AreTyped, own_whole, own_free, own_regulars, IsCompleted, IsCompletion}
 use Rattle.expression_analysis.proofs.Judgements.{gives_same, gives_next, error_same, error_first, error_next}
+use Rattle.expression_analysis.proofs.Placed.{kinds_in_plan}
 use Rattle.expression_analysis.proofs.PartsTyped.{room_first, room_next, room_same, grown, counted}
 use Rattle.expression_analysis.proofs.Seens.{own_span, literal_same, literal_quiet}
 use Rattle.expression_analysis.proofs.Shown.{spans_of, function_shown, regular_shown, whole_shown, free_shown, own_shown}
@@ -95,8 +96,8 @@ few_parts written count is = refl
 
 -- the node ---------------------------------------------------------------------------------------------------------------------------
 
-module _ (columns : List OutColumn) (exprs : List Expr) (node : NodeId) (span : Span) (written : Function) (empty parts : Parts) (literal : Option (List ℕ)) (old middle : Patterns)
-    (before between : Marks) (no_args : empty.args ≡ []) (no_spans : empty.spans ≡ []) (typed : AreTyped columns exprs empty parts old middle) (same : between ≡ before)
+module _ (over : Over) (exprs : List Expr) (node : NodeId) (span : Span) (written : Function) (empty parts : Parts) (literal : Option (List ℕ)) (old middle : Patterns)
+    (before between : Marks) (no_args : empty.args ≡ []) (no_spans : empty.spans ≡ []) (typed : AreTyped over exprs empty parts old middle) (same : between ≡ before)
     (is_literal : literal ≡ second_literal (judgeds exprs)) (few : takes_few written (length exprs) ≡ true) where
   all_args : parts.args ≡ typed.added
   all_args = typed.args ∙ ap (λ (these : List TypedExpr). these ++ typed.added) no_args
@@ -114,12 +115,12 @@ module _ (columns : List OutColumn) (exprs : List Expr) (node : NodeId) (span : 
   shown_in R reader = λ i. parts_at (spans_in R reader i) (literal_in R reader i)
 
   abbrev next_kind : List Kind → Judgement Kind
-  next_kind kinds accepts = kind_of_applied written (judgeds exprs) kinds span (scope_of accepts columns)
+  next_kind kinds accepts = kind_of_applied written (judgeds exprs) kinds span (scope_over accepts over)
 
   kind_is : (accepts : Regular → Bool) → own_kind written parts.spans literal (kinds_in parts.args) span accepts ≡ next_kind (kinds_in typed.added) accepts
   kind_is accepts =
       (λ i. own_kind written (spans_in Judged judged i) (literal_in Judged judged i) (kinds_in (all_args i)) span accepts)
-      ∙ own_shown written (judgeds exprs) (kinds_in typed.added) span columns accepts
+      ∙ own_shown written (judgeds exprs) (kinds_in typed.added) span over accepts
 
   whole_is : own_whole written parts.spans literal ≡ whole_of written (typings exprs)
   whole_is = ap (whole_of written) (shown_in Typing typing) ∙ whole_shown Typing written (typings exprs)
@@ -135,10 +136,10 @@ module _ (columns : List OutColumn) (exprs : List Expr) (node : NodeId) (span : 
   function_is : function_in_plan written (parts_at parts.spans literal) ≡ function_in_plan written (typings exprs)
   function_is = ap (function_in_plan written) (shown_in Typing typing) ∙ function_shown Typing written (typings exprs)
 
-  completed_typed : (new : Patterns) (made : TypedExpr) → IsCompleted node written parts literal span middle new made → IsTyped (applied_to node span written exprs) columns old new made
+  completed_typed : (new : Patterns) (made : TypedExpr) → IsCompleted node written parts literal span middle new made → IsTyped (applied_to node span written exprs) over old new made
   completed_typed new made done =
       let tp : List (Part Typing) = typings exprs in
-      let visible : Visible = visible_of columns in
+      let visible : Visible = visible_over over in
       let kept = same_patterns written exprs few (ap (wrong_literal written) (sym (shown_in Judged judged)) ∙ done.fits) in
       let whole_kept : wholes (arguments_in_plan written tp) ++ whole_of written tp ≡ wholes tp ++ own_whole written parts.spans literal = λ i. kept.whole i ++ sym whole_is i in
       let free_kept : frees (arguments_in_plan written tp) ++ free_of written tp ≡ frees tp ++ own_free written parts.spans literal = λ i. kept.free i ++ sym free_is i in
@@ -155,17 +156,21 @@ module _ (columns : List OutColumn) (exprs : List Expr) (node : NodeId) (span : 
             ∙ number_in_plan written tp (length old.whole + length (wholes tp)) (length old.free + length (frees tp))
             ∙ (λ i. pattern_number (function_in_plan written tp) (length old.whole + length (sym kept.whole i)) (length old.free + length (sym kept.free i))) in
             there ∙ (λ i. typed_apply node (function_is i) (args i) (number i));
-        gives = gives_next (List Kind) Kind (kinds_judgement columns exprs) next_kind (kinds_in typed.added) made.kind typed.gives
+        kind = λ whole free. done.kind
+            ∙ (λ i. kind_of_call (function_is i) (arguments_in_plan written (kinds_in (all_args i))))
+            ∙ ap (λ (kinds : List Kind). kind_of_call (function_in_plan written tp) (arguments_in_plan written kinds)) (typed.kinds whole free)
+            ∙ ap (kind_of_call (function_in_plan written tp)) (sym (kinds_in_plan written (typed_parts tp visible whole free)) ∙ ap kinds_in (typed_in_plan written tp visible whole free));
+        gives = gives_next (List Kind) Kind (kinds_judgement over exprs) next_kind (kinds_in typed.added) made.kind typed.gives
             (gives_same Kind (own_kind written parts.spans literal (kinds_in parts.args) span) (next_kind (kinds_in typed.added)) kind_is made.kind done.gives);
         whole = grown old.whole middle.whole new.whole (wholes tp) (own_whole written parts.spans literal) typed.whole done.whole ∙ ap (λ (these : List (List ℕ)). old.whole ++ these) (sym whole_kept);
         free = grown old.free middle.free new.free (frees tp) (own_free written parts.spans literal) typed.free done.free ∙ ap (λ (these : List (List ℕ)). old.free ++ these) (sym free_kept);
       }
 
   pub completes : (new : Patterns) (after : Marks) (result : Result TypedExpr AnalyzeError) → IsCompletion node written parts literal span middle new between after result
-      → IsAnswer (applied_to node span written exprs) columns old new before after result
+      → IsAnswer (applied_to node span written exprs) over old new before after result
   completes new after (Ok made) done = (completed_typed new made done.0, done.1 ∙ same)
   completes new after (Err error) is =
-      error_next (List Kind) Kind (kinds_judgement columns exprs) next_kind (kinds_in typed.added) (regulars_of_parts (regular_parts exprs)) (regulars_in_option (regular_of written (regular_parts exprs)))
+      error_next (List Kind) Kind (kinds_judgement over exprs) next_kind (kinds_in typed.added) (regulars_of_parts (regular_parts exprs)) (regulars_in_option (regular_of written (regular_parts exprs)))
       before between after error typed.gives same
       (subst (λ (these : List Regular). IsErrorOf (next_kind (kinds_in typed.added)) these between after error) regulars_are
       (error_same Kind (own_kind written parts.spans literal (kinds_in parts.args) span) (next_kind (kinds_in typed.added)) kind_is (own_regulars written parts.spans literal) between after error is))
@@ -173,9 +178,9 @@ module _ (columns : List OutColumn) (exprs : List Expr) (node : NodeId) (span : 
 -- errors of the parts ------------------------------------------------------------------------------------------------------------------
 
 -- an error of the parts is one of the node
-pub parts_error : (columns : List OutColumn) (exprs : List Expr) (node : NodeId) (span : Span) (written : Function) (before after : Marks) (error : AnalyzeError)
-    → IsErrorOf (kinds_judgement columns exprs) (regulars_of_parts (regular_parts exprs)) before after error
-    → IsErrorOf (judgement_over columns (applied_to node span written exprs).judged) (applied_to node span written exprs).regulars before after error
-parts_error columns exprs node span written before after error is =
-    error_first (List Kind) Kind (kinds_judgement columns exprs) (λ kinds accepts. kind_of_applied written (judgeds exprs) kinds span (scope_of accepts columns)) (regulars_of_parts (regular_parts exprs))
+pub parts_error : (over : Over) (exprs : List Expr) (node : NodeId) (span : Span) (written : Function) (before after : Marks) (error : AnalyzeError)
+    → IsErrorOf (kinds_judgement over exprs) (regulars_of_parts (regular_parts exprs)) before after error
+    → IsErrorOf (judgement_over over (applied_to node span written exprs).judged) (applied_to node span written exprs).regulars before after error
+parts_error over exprs node span written before after error is =
+    error_first (List Kind) Kind (kinds_judgement over exprs) (λ kinds accepts. kind_of_applied written (judgeds exprs) kinds span (scope_over accepts over)) (regulars_of_parts (regular_parts exprs))
     (regulars_in_option (regular_of written (regular_parts exprs))) before after error is

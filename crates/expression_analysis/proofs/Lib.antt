@@ -1,3 +1,4 @@
+pub mod Aggregated
 pub mod Answered
 pub mod CallsNamed
 pub mod Completed

@@ -5,7 +5,6 @@ use Rattle.std.proofs.lemmas.Grind.{flat_map-append}
 use Rattle.esql_types.specs.declared.places.Span.{Span}
 use Rattle.esql_types.specs.declared.value.Kind.{Kind}
 use Rattle.esql_ast.specs.declared.expr.Expr.{Expr}
-use Rattle.esql_plan.specs.declared.plan.OutColumn.{OutColumn}
 use Rattle.esql_plan.specs.declared.typed.TypedExpr.{TypedExpr}
 use Rattle.text_match.specs.declared.patterns.Patterns.{Patterns}
 use Rattle.row_semantics.specs.Forms.{Part, part_of}
@@ -15,8 +14,8 @@ use Rattle.row_semantics.specs.Scopes.{Broken, Scope}
 use Rattle.row_semantics.specs.Typed.{Typing, Visible, typing, typed_parts}
 use Rattle.expression_analysis.specs.declared.error.AnalyzeError.{AnalyzeError}
 use Rattle.expression_analysis.specs.declared.parts.Parts.{Parts}
-use Rattle.expression_analysis.specs.Answers.{visible_of, scope_of, regulars_in, regulars_of_parts}
-use Rattle.expression_analysis.specs.Steps.{Marks, Judgement, Gives, IsErrorOf, HasRoom, IsTyped, readings_of, judgement_over, typings, judgeds, regular_parts, wholes, frees, kinds_in, kinds_judgement, AreTyped}
+use Rattle.expression_analysis.specs.Answers.{regulars_in, regulars_of_parts}
+use Rattle.expression_analysis.specs.Steps.{Marks, Over, visible_over, scope_over, Judgement, Gives, IsErrorOf, HasRoom, IsTyped, readings_of, judgement_over, typings, judgeds, regular_parts, wholes, frees, kinds_in, kinds_judgement, AreTyped}
 use Rattle.expression_analysis.proofs.Judgements.{chained, gives_all, gives_same, gives_next, error_same, error_first, error_next}
 
 -- kinds ---------------------------------------------------------------------------------------------------------------------------
@@ -41,21 +40,21 @@ kinds_append (x ∷ xs) ys scope =
     ap (λ (rest : Result (List Kind) Broken). and_then (x.reading scope) (λ kind. and_then rest (λ kinds. Ok (kind ∷ kinds)))) (kinds_append xs ys scope)
     ∙ joined_more (x.reading scope) (kinds_of_parts xs scope) (kinds_of_parts ys scope)
 
-module _ (columns : List OutColumn) (xs ys : List Expr) where
+module _ (over : Over) (xs ys : List Expr) where
   -- the kinds of the first expressions, then those of the later ones
   abbrev in_turn : Judgement (List Kind)
-  in_turn = chained (kinds_judgement columns xs) (λ these. chained (kinds_judgement columns ys) (λ those accepts. Ok (these ++ those)))
+  in_turn = chained (kinds_judgement over xs) (λ these. chained (kinds_judgement over ys) (λ those accepts. Ok (these ++ those)))
 
-  kinds_in_turn : (accepts : Regular → Bool) → in_turn accepts ≡ kinds_judgement columns (xs ++ ys) accepts
+  kinds_in_turn : (accepts : Regular → Bool) → in_turn accepts ≡ kinds_judgement over (xs ++ ys) accepts
   kinds_in_turn accepts =
-      sym (ap (λ (parts : List (Part Judged)). kinds_of_parts parts (scope_of accepts columns)) (map-append (part_of judged) xs ys)
-      ∙ kinds_append (judgeds xs) (judgeds ys) (scope_of accepts columns))
+      sym (ap (λ (parts : List (Part Judged)). kinds_of_parts parts (scope_over accepts over)) (map-append (part_of judged) xs ys)
+      ∙ kinds_append (judgeds xs) (judgeds ys) (scope_over accepts over))
 
-  gives_both : (first later : List Kind) → Gives (kinds_judgement columns xs) first → Gives (kinds_judgement columns ys) later → Gives (kinds_judgement columns (xs ++ ys)) (first ++ later)
+  gives_both : (first later : List Kind) → Gives (kinds_judgement over xs) first → Gives (kinds_judgement over ys) later → Gives (kinds_judgement over (xs ++ ys)) (first ++ later)
   gives_both first later here there =
-      gives_same (List Kind) in_turn (kinds_judgement columns (xs ++ ys)) kinds_in_turn (first ++ later)
-      (gives_next (List Kind) (List Kind) (kinds_judgement columns xs) (λ these. chained (kinds_judgement columns ys) (λ those accepts. Ok (these ++ those))) first (first ++ later) here
-      (gives_next (List Kind) (List Kind) (kinds_judgement columns ys) (λ those accepts. Ok (first ++ those)) later (first ++ later) there (gives_all (List Kind) (first ++ later))))
+      gives_same (List Kind) in_turn (kinds_judgement over (xs ++ ys)) kinds_in_turn (first ++ later)
+      (gives_next (List Kind) (List Kind) (kinds_judgement over xs) (λ these. chained (kinds_judgement over ys) (λ those accepts. Ok (these ++ those))) first (first ++ later) here
+      (gives_next (List Kind) (List Kind) (kinds_judgement over ys) (λ those accepts. Ok (first ++ those)) later (first ++ later) there (gives_all (List Kind) (first ++ later))))
 
   regulars_append : regulars_of_parts (regular_parts xs) ++ regulars_of_parts (regular_parts ys) ≡ regulars_of_parts (regular_parts (xs ++ ys))
   regulars_append =
@@ -63,30 +62,30 @@ module _ (columns : List OutColumn) (xs ys : List Expr) where
       ∙ sym (ap regulars_of_parts (map-append (part_of regulars_in) xs ys))
 
   abbrev ErrorIn : List Expr → Marks → Marks → AnalyzeError → Type 0
-  ErrorIn exprs before after error = IsErrorOf (kinds_judgement columns exprs) (regulars_of_parts (regular_parts exprs)) before after error
+  ErrorIn exprs before after error = IsErrorOf (kinds_judgement over exprs) (regulars_of_parts (regular_parts exprs)) before after error
 
   error_in_turn : (before after : Marks) (error : AnalyzeError) → IsErrorOf in_turn (regulars_of_parts (regular_parts xs) ++ regulars_of_parts (regular_parts ys)) before after error
       → ErrorIn (xs ++ ys) before after error
   error_in_turn before after error is =
-      error_same (List Kind) in_turn (kinds_judgement columns (xs ++ ys)) kinds_in_turn (regulars_of_parts (regular_parts (xs ++ ys))) before after error
+      error_same (List Kind) in_turn (kinds_judgement over (xs ++ ys)) kinds_in_turn (regulars_of_parts (regular_parts (xs ++ ys))) before after error
       (subst (λ (these : List Regular). IsErrorOf in_turn these before after error) regulars_append is)
 
   -- an error of the first expressions is one of all
   pub error_before : (before after : Marks) (error : AnalyzeError) → ErrorIn xs before after error → ErrorIn (xs ++ ys) before after error
   error_before before after error is =
       error_in_turn before after error
-      (error_first (List Kind) (List Kind) (kinds_judgement columns xs) (λ these. chained (kinds_judgement columns ys) (λ those accepts. Ok (these ++ those)))
+      (error_first (List Kind) (List Kind) (kinds_judgement over xs) (λ these. chained (kinds_judgement over ys) (λ those accepts. Ok (these ++ those)))
       (regulars_of_parts (regular_parts xs)) (regulars_of_parts (regular_parts ys)) before after error is)
 
   -- an error of later expressions, behind first ones that are typed
-  pub error_behind : (first : List Kind) (before middle after : Marks) (error : AnalyzeError) → Gives (kinds_judgement columns xs) first → middle ≡ before
+  pub error_behind : (first : List Kind) (before middle after : Marks) (error : AnalyzeError) → Gives (kinds_judgement over xs) first → middle ≡ before
       → ErrorIn ys middle after error → ErrorIn (xs ++ ys) before after error
   error_behind first before middle after error here same is =
       error_in_turn before after error
-      (error_next (List Kind) (List Kind) (kinds_judgement columns xs) (λ these. chained (kinds_judgement columns ys) (λ those accepts. Ok (these ++ those))) first
+      (error_next (List Kind) (List Kind) (kinds_judgement over xs) (λ these. chained (kinds_judgement over ys) (λ those accepts. Ok (these ++ those))) first
       (regulars_of_parts (regular_parts xs)) (regulars_of_parts (regular_parts ys)) before middle after error here same
-      (subst (λ (these : List Regular). IsErrorOf (chained (kinds_judgement columns ys) (λ those accepts. Ok (first ++ those))) these middle after error) (append-nil (regulars_of_parts (regular_parts ys)))
-      (error_first (List Kind) (List Kind) (kinds_judgement columns ys) (λ those accepts. Ok (first ++ those)) (regulars_of_parts (regular_parts ys)) [] middle after error is)))
+      (subst (λ (these : List Regular). IsErrorOf (chained (kinds_judgement over ys) (λ those accepts. Ok (first ++ those))) these middle after error) (append-nil (regulars_of_parts (regular_parts ys)))
+      (error_first (List Kind) (List Kind) (kinds_judgement over ys) (λ those accepts. Ok (first ++ those)) (regulars_of_parts (regular_parts ys)) [] middle after error is)))
 
 -- typed parts ----------------------------------------------------------------------------------------------------------------------
 
@@ -137,9 +136,9 @@ room_same patterns whole other_whole free other_free same_whole same_free room =
 pub grown : (old middle new xs ys : List (List ℕ)) → middle ≡ old ++ xs → new ≡ middle ++ ys → new ≡ old ++ (xs ++ ys)
 grown old middle new xs ys first next = next ∙ ap (λ (these : List (List ℕ)). these ++ ys) first ∙ append_assoc old xs ys
 
-pub typed_both : (columns : List OutColumn) (xs ys : List Expr) (parts next last : Parts) (old middle new : Patterns)
-    → AreTyped columns xs parts next old middle → AreTyped columns ys next last middle new → AreTyped columns (xs ++ ys) parts last old new
-typed_both columns xs ys parts next last old middle new first later = record {
+pub typed_both : (over : Over) (xs ys : List Expr) (parts next last : Parts) (old middle new : Patterns)
+    → AreTyped over xs parts next old middle → AreTyped over ys next last middle new → AreTyped over (xs ++ ys) parts last old new
+typed_both over xs ys parts next last old middle new first later = record {
   added = first.added ++ later.added;
   args = later.args ∙ ap (λ (these : List TypedExpr). these ++ later.added) first.args ∙ append_assoc parts.args first.added later.added;
   spans = later.spans ∙ ap (λ (these : List Span). these ++ map (λ (expr : Expr). expr.span) ys) first.spans
@@ -151,12 +150,18 @@ typed_both columns xs ys parts next last old middle new first later = record {
       let here = first.are (room_first old (wholes (typings xs)) (wholes (typings ys)) (frees (typings xs)) (frees (typings ys)) apart) in
       let there = later.are (room_next old middle (wholes (typings xs)) (wholes (typings ys)) (frees (typings xs)) (frees (typings ys)) first.whole first.free apart) in
       (λ i. here i ++ there i)
-      ∙ (λ i. typed_parts (typings xs) (visible_of columns) (length old.whole) (length old.free)
-      ++ typed_parts (typings ys) (visible_of columns) (counted old.whole middle.whole (wholes (typings xs)) first.whole i) (counted old.free middle.free (frees (typings xs)) first.free i))
-      ∙ sym (typed_append (typings xs) (typings ys) (visible_of columns) (length old.whole) (length old.free))
-      ∙ ap (λ (these : List (Part Typing)). typed_parts these (visible_of columns) (length old.whole) (length old.free)) (sym (map-append (part_of typing) xs ys));
-  gives = subst (λ (these : List Kind). Gives (kinds_judgement columns (xs ++ ys)) these) (sym (map-append (λ (arg : TypedExpr). arg.kind) first.added later.added))
-      (gives_both columns xs ys (kinds_in first.added) (kinds_in later.added) first.gives later.gives);
+      ∙ (λ i. typed_parts (typings xs) (visible_over over) (length old.whole) (length old.free)
+      ++ typed_parts (typings ys) (visible_over over) (counted old.whole middle.whole (wholes (typings xs)) first.whole i) (counted old.free middle.free (frees (typings xs)) first.free i))
+      ∙ sym (typed_append (typings xs) (typings ys) (visible_over over) (length old.whole) (length old.free))
+      ∙ ap (λ (these : List (Part Typing)). typed_parts these (visible_over over) (length old.whole) (length old.free)) (sym (map-append (part_of typing) xs ys));
+  kinds = λ whole free. map-append (λ (arg : TypedExpr). arg.kind) first.added later.added
+      ∙ (λ i. first.kinds whole free i ++ later.kinds (whole + length (wholes (typings xs))) (free + length (frees (typings xs))) i)
+      ∙ sym (map-append (λ (arg : TypedExpr). arg.kind) (typed_parts (typings xs) (visible_over over) whole free)
+      (typed_parts (typings ys) (visible_over over) (whole + length (wholes (typings xs))) (free + length (frees (typings xs)))))
+      ∙ ap kinds_in (sym (typed_append (typings xs) (typings ys) (visible_over over) whole free))
+      ∙ ap (λ (these : List (Part Typing)). kinds_in (typed_parts these (visible_over over) whole free)) (sym (map-append (part_of typing) xs ys));
+  gives = subst (λ (these : List Kind). Gives (kinds_judgement over (xs ++ ys)) these) (sym (map-append (λ (arg : TypedExpr). arg.kind) first.added later.added))
+      (gives_both over xs ys (kinds_in first.added) (kinds_in later.added) first.gives later.gives);
   whole = grown old.whole middle.whole new.whole (wholes (typings xs)) (wholes (typings ys)) first.whole later.whole ∙ ap (λ (these : List (List ℕ)). old.whole ++ these) (sym (wholes_append xs ys));
   free = grown old.free middle.free new.free (frees (typings xs)) (frees (typings ys)) first.free later.free ∙ ap (λ (these : List (List ℕ)). old.free ++ these) (sym (frees_append xs ys));
 }
@@ -166,31 +171,33 @@ typed_both columns xs ys parts next last old middle new first later = record {
 abbrev alone : Kind → Judgement (List Kind)
 alone kind accepts = Ok (kind ∷ [])
 
-pub typed_one : (columns : List OutColumn) (expr : Expr) (parts next : Parts) (old new : Patterns) (typed : TypedExpr) → next.args ≡ parts.args ++ typed ∷ [] → next.spans ≡ parts.spans ++ expr.span ∷ []
-    → IsTyped (readings_of expr) columns old new typed → AreTyped columns (expr ∷ []) parts next old new
-typed_one columns expr parts next old new typed args spans is = record {
+pub typed_one : (over : Over) (expr : Expr) (parts next : Parts) (old new : Patterns) (typed : TypedExpr) → next.args ≡ parts.args ++ typed ∷ [] → next.spans ≡ parts.spans ++ expr.span ∷ []
+    → IsTyped (readings_of expr) over old new typed → AreTyped over (expr ∷ []) parts next old new
+typed_one over expr parts next old new typed args spans is = record {
   added = typed ∷ [];
   args = args;
   spans = spans;
   are = λ room. ap (λ (these : TypedExpr). these ∷ []) (is.is (room_same old _ _ _ _ (append-nil (readings_of expr).typing.whole) (append-nil (readings_of expr).typing.free) room));
-  gives = gives_next Kind (List Kind) (judgement_over columns (readings_of expr).judged) alone typed.kind (typed.kind ∷ []) is.gives (gives_all (List Kind) (typed.kind ∷ []));
+  kinds = λ whole free. ap (λ (these : Kind). these ∷ []) (is.kind whole free);
+  gives = gives_next Kind (List Kind) (judgement_over over (readings_of expr).judged) alone typed.kind (typed.kind ∷ []) is.gives (gives_all (List Kind) (typed.kind ∷ []));
   whole = is.whole ∙ ap (λ (these : List (List ℕ)). old.whole ++ these) (sym (append-nil (readings_of expr).typing.whole));
   free = is.free ∙ ap (λ (these : List (List ℕ)). old.free ++ these) (sym (append-nil (readings_of expr).typing.free));
 }
 
-pub error_one : (columns : List OutColumn) (expr : Expr) (before after : Marks) (error : AnalyzeError) → IsErrorOf (judgement_over columns (readings_of expr).judged) (readings_of expr).regulars before after error
-    → IsErrorOf (kinds_judgement columns (expr ∷ [])) (regulars_of_parts (regular_parts (expr ∷ []))) before after error
-error_one columns expr before after error is =
-    error_first Kind (List Kind) (judgement_over columns (readings_of expr).judged) alone (readings_of expr).regulars [] before after error is
+pub error_one : (over : Over) (expr : Expr) (before after : Marks) (error : AnalyzeError) → IsErrorOf (judgement_over over (readings_of expr).judged) (readings_of expr).regulars before after error
+    → IsErrorOf (kinds_judgement over (expr ∷ [])) (regulars_of_parts (regular_parts (expr ∷ []))) before after error
+error_one over expr before after error is =
+    error_first Kind (List Kind) (judgement_over over (readings_of expr).judged) alone (readings_of expr).regulars [] before after error is
 
 -- no part ------------------------------------------------------------------------------------------------------------------------------
 
-pub typed_none : (columns : List OutColumn) (parts : Parts) (patterns : Patterns) → AreTyped columns [] parts parts patterns patterns
-typed_none columns parts patterns = record {
+pub typed_none : (over : Over) (parts : Parts) (patterns : Patterns) → AreTyped over [] parts parts patterns patterns
+typed_none over parts patterns = record {
   added = [];
   args = sym (append-nil parts.args);
   spans = sym (append-nil parts.spans);
   are = λ room. refl;
+  kinds = λ whole free. refl;
   gives = gives_all (List Kind) [];
   whole = sym (append-nil patterns.whole);
   free = sym (append-nil patterns.free);

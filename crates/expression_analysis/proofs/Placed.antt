@@ -117,6 +117,7 @@ module _ (node : NodeId) (written : Function) (parts : Parts) (literal : Option 
   completed_is = record {
     is = λ room. λ i. roll-TypedExpr (record { node = node; kind = kind_again i; form = Apply (in_plan_is i) (args_are i) (read_there.is room i) });
     fits = no_first (misfit (function_in_plan written (parts_at parts.spans literal)) (arguments_in_plan written (kinds_in parts.args))) (wrong_literal written (parts_at parts.spans literal)) found;
+    kind = own_is;
     gives = gives_same Kind (kind_there written parts.spans literal (kinds_in parts.args) span) (own_kind written parts.spans literal (kinds_in parts.args) span)
         (fits_there written parts.spans literal (kinds_in parts.args) span found) own gives_kind;
     whole = read_there.whole;

@@ -4,7 +4,6 @@ use Rattle.esql_types.specs.declared.places.Span.{Span}
 use Rattle.esql_types.specs.declared.value.Kind.{Kind}
 use Rattle.esql_plan.specs.declared.function.Function.{Function}
 use Rattle.esql_plan.specs.declared.function.Function.TheVariants as function
-use Rattle.esql_plan.specs.declared.plan.OutColumn.{OutColumn}
 use Rattle.esql_plan.specs.Signatures.{misfit, kind_of_call}
 use Rattle.row_semantics.specs.Forms.{Part, function_in_plan, arguments_in_plan}
 use Rattle.row_semantics.specs.Kinds.{Judged, wrong_literal, regular_of, first_place, if_accepted, fitting, kind_of_applied}
@@ -12,6 +11,7 @@ use Rattle.row_semantics.specs.Regulars.{Regular}
 use Rattle.row_semantics.specs.Scopes.{Scope}
 use Rattle.row_semantics.specs.Typed.{whole_of, free_of}
 use Rattle.expression_analysis.specs.Answers.{scope_of}
+use Rattle.expression_analysis.specs.Steps.{Over, scope_over}
 use Rattle.expression_analysis.specs.Calls.{parts_at, second_literal, own_kind}
 
 abbrev pub spans_of : {A : Type 0} → List (Part A) → List Span
@@ -69,10 +69,10 @@ accepted_alike None scope other kind same = refl
 accepted_alike (Some regular) scope other kind same = ap (λ (accepts : Regular → Bool). if_accepted (Some regular) (record { columns = scope.columns; standing = scope.standing; accepts = accepts }) kind) same
 
 -- the kind of a function of parts, by their spans and the literal of the second
-pub own_shown : (written : Function) (parts : List (Part Judged)) (kinds : List Kind) (span : Span) (columns : List OutColumn) (accepts : Regular → Bool)
-    → own_kind written (spans_of parts) (second_literal parts) kinds span accepts ≡ kind_of_applied written parts kinds span (scope_of accepts columns)
-own_shown written parts kinds span columns accepts =
+pub own_shown : (written : Function) (parts : List (Part Judged)) (kinds : List Kind) (span : Span) (over : Over) (accepts : Regular → Bool)
+    → own_kind written (spans_of parts) (second_literal parts) kinds span accepts ≡ kind_of_applied written parts kinds span (scope_over accepts over)
+own_shown written parts kinds span over accepts =
     (λ i. fitting (first_place (misfit (function_shown Judged written parts i) (arguments_in_plan written kinds)) (wrong_shown Judged written parts i)) (spans_of parts) span
     (if_accepted (regular_shown Judged written parts i) (scope_of accepts []) (kind_of_call (function_shown Judged written parts i) (arguments_in_plan written kinds))))
     ∙ ap (fitting (first_place (misfit (function_in_plan written parts) (arguments_in_plan written kinds)) (wrong_literal written parts)) (spans_of parts) span)
-    (accepted_alike (regular_of written parts) (scope_of accepts []) (scope_of accepts columns) (kind_of_call (function_in_plan written parts) (arguments_in_plan written kinds)) refl)
+    (accepted_alike (regular_of written parts) (scope_of accepts []) (scope_over accepts over) (kind_of_call (function_in_plan written parts) (arguments_in_plan written kinds)) refl)

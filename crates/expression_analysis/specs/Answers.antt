@@ -11,7 +11,7 @@ use Rattle.row_semantics.specs.declared.rule.NameRule.TheVariants.{BadRegex}
 use Rattle.row_semantics.specs.Forms.{Part, constant, named, same, applied, aggregate, refused, Reader, read_by}
 use Rattle.row_semantics.specs.Kinds.{regular_of}
 use Rattle.row_semantics.specs.Regulars.{Regular, is_accepted}
-use Rattle.row_semantics.specs.Scopes.{Broken, elsewhere, Scope}
+use Rattle.row_semantics.specs.Scopes.{Broken, elsewhere, in_field, Scope}
 use Rattle.row_semantics.specs.Typed.{Visible}
 use Rattle.expression_analysis.specs.declared.error.AnalyzeError.{AnalyzeError}
 use Rattle.expression_analysis.specs.declared.error.AnalyzeError.TheVariants as error
@@ -23,6 +23,10 @@ visible_of columns = record { columns = columns; calls = [] }
 -- what an expression over these columns is judged by, outside STATS
 abbrev pub scope_of : (Regular → Bool) → List OutColumn → Scope
 scope_of accepts columns = record { columns = columns_of columns; standing = elsewhere; accepts = accepts }
+
+-- what an expression over these columns is judged by, in a field of STATS
+abbrev pub field_scope_of : (Regular → Bool) → List OutColumn → Scope
+field_scope_of accepts columns = record { columns = columns_of columns; standing = in_field; accepts = accepts }
 
 abbrev pub same_span : Span → Span → Bool
 same_span left right = left.from == right.from && left.to == right.to

@@ -1,6 +1,6 @@
 -- What each step of the analysis of an expression answers, with the columns that can be seen and the patterns and the marks of the maker
 -- before and after it.
-use Rattle.std.specs.Prelude.{◌≡◌, ◌⊎◌, ◌≤◌, ◌+◌, ℕ, Bool, true, List, [], ◌∷◌, ◌++◌, map, length, Option, Some, None, Result, Ok, Err}
+use Rattle.std.specs.Prelude.{◌≡◌, ◌⊎◌, ◌≤◌, ◌+◌, ℕ, Bool, true, false, List, [], ◌∷◌, ◌++◌, map, length, Option, Some, None, Result, Ok, Err, if◌then◌else◌}
 use Rattle.std.specs.List.{flat_map}
 use Rattle.esql_types.specs.declared.places.Span.{Span}
 use Rattle.esql_types.specs.declared.names.NodeId.{NodeId}
@@ -15,21 +15,26 @@ use Rattle.esql_ast.specs.declared.expr.Form.TheOpen.{Constant}
 use Rattle.esql_ast.specs.declared.expr.Form.TheViews.{roll-Form, roll-Expr}
 use Rattle.esql_ast.specs.declared.query.TextAt.{TextAt}
 use Rattle.esql_plan.specs.declared.function.Function.{Function}
+use Rattle.esql_plan.specs.declared.function.AggFunction.{AggFunction}
 use Rattle.esql_plan.specs.declared.plan.OutColumn.{OutColumn}
 use Rattle.esql_plan.specs.declared.typed.TypedExpr.{TypedExpr}
 use Rattle.esql_plan.specs.declared.typed.TypedForm.TheVariants.{Column}
 use Rattle.esql_plan.specs.Exprs.{typed_at, constant_at}
+use Rattle.esql_plan.specs.Signatures.{kind_of_call}
 use Rattle.text_match.specs.declared.patterns.Patterns.{Patterns}
-use Rattle.row_semantics.specs.declared.rule.NameRule.TheVariants.{BadRegex, UnknownColumn}
-use Rattle.row_semantics.specs.Forms.{Part, Seen, constant, refused, applied, part_of, read_by, function_in_plan, arguments_in_plan}
-use Rattle.row_semantics.specs.Kinds.{Judged, judged, kinds_of_parts, regular_of, wrong_literal, if_accepted}
+use Rattle.plan_semantics.specs.Plans.{columns_of}
+use Rattle.row_semantics.specs.declared.call.CallColumn.{CallColumn}
+use Rattle.row_semantics.specs.declared.rule.NameRule.TheVariants.{BadRegex, BadArguments, UnknownColumn}
+use Rattle.row_semantics.specs.Forms.{Part, Seen, constant, refused, applied, aggregate, part_of, read_by, function_in_plan, arguments_in_plan}
+use Rattle.row_semantics.specs.Kinds.{Judged, breaks, and_then, may_have_star, judged, kinds_of_parts, regular_of, wrong_literal, if_accepted}
 use Rattle.row_semantics.specs.Regulars.{Regular, is_accepted}
-use Rattle.row_semantics.specs.Scopes.{Broken}
-use Rattle.row_semantics.specs.Typed.{Typing, typing, typed_null, typed_parts, typed_apply, whole_of, free_of, pattern_number}
+use Rattle.row_semantics.specs.Scopes.{Broken, Standing, elsewhere, in_field, Scope}
+use Rattle.row_semantics.specs.Typed.{Visible, Typing, typing, typed_null, typed_call, call_at, typed_parts, typed_apply, whole_of, free_of, pattern_number}
 use Rattle.expression_analysis.specs.declared.error.AnalyzeError.{AnalyzeError}
 use Rattle.expression_analysis.specs.declared.error.AnalyzeError.TheVariants as error
 use Rattle.expression_analysis.specs.declared.parts.Parts.{Parts}
-use Rattle.expression_analysis.specs.Answers.{visible_of, scope_of, accepted_but, regulars_in, regulars_in_option, regulars_of_parts, OneIsNoted}
+use Rattle.expression_analysis.specs.declared.sight.Sight.{Sight}
+use Rattle.expression_analysis.specs.Answers.{scope_of, accepted_but, regulars_in, regulars_in_option, regulars_of_parts, OneIsNoted}
 use Rattle.expression_analysis.specs.Calls.{parts_at, own_kind}
 
 -- what a maker of regular expressions has counted and noted
@@ -39,6 +44,29 @@ pub record Marks : Type 0 where
 
 abbrev pub marks_of : {M : Type 0} → (M → ℕ) → (M → List ℕ) → M → Marks
 marks_of count last maker = record { count = count maker; last = last maker }
+
+-- What an expression is typed over: the columns that can be seen, those that stand for aggregate calls, and where it stands.
+pub record Over : Type 0 where
+  pub columns : List OutColumn
+  pub calls : List CallColumn
+  pub standing : Standing
+
+abbrev pub standing_of : Bool → Standing
+standing_of true = in_field
+standing_of false = elsewhere
+
+abbrev pub over_of : Sight → Over
+over_of sight = record { columns = sight.columns.now; calls = sight.calls.now; standing = standing_of sight.in_field }
+
+abbrev pub visible_over : Over → Visible
+visible_over over = record { columns = over.columns; calls = over.calls }
+
+abbrev pub scope_over : (Regular → Bool) → Over → Scope
+scope_over accepts over = record { columns = columns_of over.columns; standing = over.standing; accepts = accepts }
+
+-- what the argument of an aggregate is typed over
+abbrev pub within_over : Over → Over
+within_over over = record over { standing = elsewhere }
 
 -- what is judged by which regular expressions are accepted
 abbrev pub Judgement : Type 0 → Type 0
@@ -102,18 +130,24 @@ abbrev pub readings_at : NodeId → Span → Seen Typing → Seen Judged → See
 readings_at node span for_typing for_judged for_regulars =
     record { typing = typing node span for_typing; judged = judged node span for_judged; regulars = regulars_in node span for_regulars }
 
-abbrev pub judgement_over : List OutColumn → Judged → Judgement Kind
-judgement_over columns reading accepts = reading (scope_of accepts columns)
+abbrev pub judgement_over : Over → Judged → Judgement Kind
+judgement_over over reading accepts = reading (scope_over accepts over)
 
-pub record IsTyped (read : Readings) (columns : List OutColumn) (old new : Patterns) (typed : TypedExpr) : Type 0 where
-  pub is : HasRoom old read.typing.whole read.typing.free → typed ≡ read.typing.at (visible_of columns) (length old.whole) (length old.free)
-  pub gives : Gives (judgement_over columns read.judged) typed.kind
+-- an expression is typed, and has its kind whatever numbers its patterns have
+pub record IsTyped (read : Readings) (over : Over) (old new : Patterns) (typed : TypedExpr) : Type 0 where
+  pub is : HasRoom old read.typing.whole read.typing.free → typed ≡ read.typing.at (visible_over over) (length old.whole) (length old.free)
+  pub kind : (whole free : ℕ) → typed.kind ≡ (read.typing.at (visible_over over) whole free).kind
+  pub gives : Gives (judgement_over over read.judged) typed.kind
   pub whole : new.whole ≡ old.whole ++ read.typing.whole
   pub free : new.free ≡ old.free ++ read.typing.free
 
-abbrev pub IsAnswer : Readings → List OutColumn → Patterns → Patterns → Marks → Marks → Result TypedExpr AnalyzeError → Type 0
-IsAnswer read columns old new before after (Ok typed) = IsTyped read columns old new typed × (after ≡ before)
-IsAnswer read columns old new before after (Err error) = IsErrorOf (judgement_over columns read.judged) read.regulars before after error
+abbrev pub IsAnswer : Readings → Over → Patterns → Patterns → Marks → Marks → Result TypedExpr AnalyzeError → Type 0
+IsAnswer read over old new before after (Ok typed) = IsTyped read over old new typed × (after ≡ before)
+IsAnswer read over old new before after (Err error) = IsErrorOf (judgement_over over read.judged) read.regulars before after error
+
+-- an answer that adds no pattern, whichever there are
+abbrev pub AddsNoPattern : Readings → Over → Marks → Marks → Result TypedExpr AnalyzeError → Type 0
+AddsNoPattern read over before after result = (patterns : Patterns) → IsAnswer read over patterns patterns before after result
 
 -- the pattern beside an operator, as the constant that it is
 abbrev pub pattern_expr : NodeId → TextAt → Expr
@@ -147,23 +181,39 @@ frees parts = flat_map (λ part. part.reading.free) parts
 abbrev pub kinds_in : List TypedExpr → List Kind
 kinds_in args = map (λ (arg : TypedExpr). arg.kind) args
 
-abbrev pub kinds_judgement : List OutColumn → List Expr → Judgement (List Kind)
-kinds_judgement columns exprs accepts = kinds_of_parts (judgeds exprs) (scope_of accepts columns)
+abbrev pub kinds_judgement : Over → List Expr → Judgement (List Kind)
+kinds_judgement over exprs accepts = kinds_of_parts (judgeds exprs) (scope_over accepts over)
 
 -- expressions are typed behind the parts that are typed before them
-pub record AreTyped (columns : List OutColumn) (exprs : List Expr) (old_parts new_parts : Parts) (old new : Patterns) : Type 0 where
+pub record AreTyped (over : Over) (exprs : List Expr) (old_parts new_parts : Parts) (old new : Patterns) : Type 0 where
   pub added : List TypedExpr
   pub args : new_parts.args ≡ old_parts.args ++ added
   pub spans : new_parts.spans ≡ old_parts.spans ++ map (λ (expr : Expr). expr.span) exprs
-  pub are : HasRoom old (wholes (typings exprs)) (frees (typings exprs)) → added ≡ typed_parts (typings exprs) (visible_of columns) (length old.whole) (length old.free)
-  pub gives : Gives (kinds_judgement columns exprs) (kinds_in added)
+  pub are : HasRoom old (wholes (typings exprs)) (frees (typings exprs)) → added ≡ typed_parts (typings exprs) (visible_over over) (length old.whole) (length old.free)
+  pub kinds : (whole free : ℕ) → kinds_in added ≡ kinds_in (typed_parts (typings exprs) (visible_over over) whole free)
+  pub gives : Gives (kinds_judgement over exprs) (kinds_in added)
   pub whole : new.whole ≡ old.whole ++ wholes (typings exprs)
   pub free : new.free ≡ old.free ++ frees (typings exprs)
 
-abbrev pub AreAnswer : {U : Type 0} → List OutColumn → List Expr → Parts → Parts → Patterns → Patterns → Marks → Marks → Result U AnalyzeError → Type 0
-AreAnswer columns exprs old_parts new_parts old new before after (Ok unit) = AreTyped columns exprs old_parts new_parts old new × (after ≡ before)
-AreAnswer columns exprs old_parts new_parts old new before after (Err error) =
-    IsErrorOf (kinds_judgement columns exprs) (regulars_of_parts (regular_parts exprs)) before after error
+abbrev pub AreAnswer : {U : Type 0} → Over → List Expr → Parts → Parts → Patterns → Patterns → Marks → Marks → Result U AnalyzeError → Type 0
+AreAnswer over exprs old_parts new_parts old new before after (Ok unit) = AreTyped over exprs old_parts new_parts old new × (after ≡ before)
+AreAnswer over exprs old_parts new_parts old new before after (Err error) =
+    IsErrorOf (kinds_judgement over exprs) (regulars_of_parts (regular_parts exprs)) before after error
+
+-- Aggregates --------------------------------------------------------------------------------------------------------------------
+
+-- the column of an aggregate call whose kind is found
+abbrev pub called_or_rule : NodeId → Result Kind Broken → List CallColumn → Result TypedExpr Broken
+called_or_rule node kind calls = and_then kind (λ kind. Ok (typed_call node kind (call_at calls node)))
+
+-- the kind of an aggregate of `*`
+abbrev pub kind_of_star : AggFunction → Span → Result Kind Broken
+kind_of_star function span = if may_have_star function then Ok kind.Long else breaks BadArguments span
+
+-- what is read of an aggregate of expressions
+abbrev pub aggregate_of : NodeId → Span → AggFunction → Bool → List Expr → Readings
+aggregate_of node span function star exprs =
+    readings_at node span (aggregate function star (typings exprs)) (aggregate function star (judgeds exprs)) (aggregate function star (regular_parts exprs))
 
 -- A function of parts -----------------------------------------------------------------------------------------------------------
 
@@ -219,6 +269,7 @@ pub record IsCompleted (node : NodeId) (function : Function) (parts : Parts) (li
       → typed ≡ typed_apply node (function_in_plan function (parts_at parts.spans literal)) (arguments_in_plan function parts.args)
       (pattern_number function (length old.whole) (length old.free))
   pub fits : wrong_literal function (parts_at parts.spans literal) ≡ None
+  pub kind : typed.kind ≡ kind_of_call (function_in_plan function (parts_at parts.spans literal)) (arguments_in_plan function (kinds_in parts.args))
   pub gives : Gives (own_kind function parts.spans literal (kinds_in parts.args) span) typed.kind
   pub whole : new.whole ≡ old.whole ++ own_whole function parts.spans literal
   pub free : new.free ≡ old.free ++ own_free function parts.spans literal

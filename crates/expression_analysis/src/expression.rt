@@ -4,21 +4,24 @@ ghost use Rattle.row_semantics.specs.Forms.{function_of, like_function, cast_by,
 ghost use Rattle.row_semantics.specs.Kinds.{kind_or_rule, judged};
 ghost use Rattle.row_semantics.specs.Regulars.{is_accepted};
 ghost use Rattle.row_semantics.specs.Typed.{typing, typing_of, typed_of};
-ghost use Rattle.expression_analysis.specs.Answers.{visible_of, scope_of, regulars_in, regulars_of_expr, IsRefusal, IsTold, IsQuiet};
+ghost use Rattle.expression_analysis.specs.Answers.{visible_of, scope_of, field_scope_of, regulars_in, regulars_of_expr, IsRefusal, IsTold, IsQuiet};
 ghost use Rattle.expression_analysis.specs.Calls.{FewAreTaken};
-ghost use Rattle.expression_analysis.specs.Steps.{marks_of, readings_of, readings_at, applied_to, typings, judgeds, regular_parts, pattern_expr, IsAnswer, AreAnswer};
+ghost use Rattle.expression_analysis.specs.Steps.{marks_of, over_of, readings_of, readings_at, applied_to, aggregate_of, typings, judgeds, regular_parts, pattern_expr, IsAnswer, AddsNoPattern, AreAnswer};
 
 use crate::AnalyzeError;
+use crate::aggregates::{argument_call, star_call};
 use crate::calls::{completed, takes};
 use crate::columns::typed_column;
 use crate::constants::{typed_constant, typed_list};
 use crate::parts::{Parts, literal_at, literal_of};
+use crate::sight::Sight;
 use esql_ast::{BinaryOp, Expr, Form, NameAt, NodeAt, TextAt};
 use esql_plan::{
-    Function, FunctionRow, OutColumn, TypedExpr, cast_function, find_aggregate, find_function,
+    AggFunction, Function, FunctionRow, OutColumn, TypedExpr, cast_function, find_aggregate,
+    find_function,
 };
 use esql_types::{Boxed, Maker, Seq, Span};
-use row_semantics::NameRule;
+use row_semantics::{CallColumn, NameRule};
 use std::alloc::Global;
 use text_match::Patterns;
 
@@ -46,7 +49,44 @@ pub fn typed_expr<M: Maker>(
     ensures count { M.refused maker.old ≤ M.refused maker.new }
     ensures quiet { IsQuiet M.refused M.last maker.old maker.new result }
 {
-    typed(alloc, expr, columns, patterns, maker)
+    let sight = Sight {
+        columns,
+        calls: &[],
+        in_field: false,
+    };
+    typed(alloc, expr, &sight, patterns, maker)
+}
+
+/// The typed form of an expression that stands in a field of STATS, where an aggregate call is the column that `calls` has for
+/// it. What an aggregate's argument reads is read again where the argument itself is written: its patterns are not added here.
+///
+/// # Errors
+/// Those of `typed_expr`.
+pub fn typed_field<M: Maker>(
+    alloc: Global,
+    expr: &Expr,
+    columns: &[OutColumn],
+    calls: &[CallColumn],
+    patterns: &mut Patterns,
+    maker: &mut M,
+) -> Result<TypedExpr, AnalyzeError>
+    requires whole { length patterns.old.whole + length (typing_of expr.now).whole ≤ 4294967295 }
+    requires free { length patterns.old.free + length (typing_of expr.now).free ≤ 4294967295 }
+    ensures typed { IfOk result (λ typed. typed ≡ typed_of expr.now (record { columns = columns.now; calls = calls.now }) (length patterns.old.whole) (length patterns.old.free)) }
+    ensures kind { IfOk result (λ typed. kind_or_rule expr.now (field_scope_of is_accepted columns.now) ≡ Ok typed.kind) }
+    ensures read { OnOk result ((patterns.new.whole ≡ patterns.old.whole ++ (typing_of expr.now).whole)
+        × (patterns.new.free ≡ patterns.old.free ++ (typing_of expr.now).free)) }
+    ensures refusal { IfErr result (IsRefusal (λ accepts. kind_or_rule expr.now (field_scope_of accepts columns.now))) }
+    ensures room { IfErr result (IsTold M.refused M.last (regulars_of_expr expr.now) maker.old maker.new) }
+    ensures count { M.refused maker.old ≤ M.refused maker.new }
+    ensures quiet { IsQuiet M.refused M.last maker.old maker.new result }
+{
+    let sight = Sight {
+        columns,
+        calls,
+        in_field: true,
+    };
+    typed(alloc, expr, &sight, patterns, maker)
 }
 
 #[cycle(typed)]
@@ -54,11 +94,11 @@ pub fn typed_expr<M: Maker>(
 fn typed<M: Maker>(
     alloc: Global,
     expr: &Expr,
-    columns: &[OutColumn],
+    sight: &Sight<'_>,
     patterns: &mut Patterns,
     maker: &mut M,
 ) -> Result<TypedExpr, AnalyzeError>
-    ensures { IsAnswer (readings_of expr.now) columns.now patterns.old patterns.new (marks_of M.refused M.last maker.old) (marks_of M.refused M.last maker.new) result }
+    ensures { IsAnswer (readings_of expr.now) (over_of sight.now) patterns.old patterns.new (marks_of M.refused M.last maker.old) (marks_of M.refused M.last maker.new) result }
 {
     let at = NodeAt {
         node: expr.node,
@@ -67,19 +107,19 @@ fn typed<M: Maker>(
     match &expr.form {
         Form::Constant { cell, .. } => typed_constant(alloc, expr.node, expr.span, cell.as_slice()),
         Form::List { values } => typed_list(alloc, expr.node, expr.span, values.as_slice()),
-        Form::Column { name } => typed_column(expr.node, expr.span, name.as_str(), columns),
-        Form::Group { inner } => typed(alloc, inner.get(), columns, patterns, maker),
+        Form::Column { name } => typed_column(expr.node, expr.span, name.as_str(), sight.columns),
+        Form::Group { inner } => typed(alloc, inner.get(), sight, patterns, maker),
         Form::Call {
             function,
             args,
             star,
-        } => call(alloc, at, function, args, *star, columns, patterns, maker),
-        Form::Minus { arg } => unary(alloc, at, Function::Neg, arg, columns, patterns, maker),
-        Form::Not { arg } => unary(alloc, at, Function::Not, arg, columns, patterns, maker),
+        } => call(alloc, at, function, args, *star, sight, patterns, maker),
+        Form::Minus { arg } => unary(alloc, at, Function::Neg, arg, sight, patterns, maker),
+        Form::Not { arg } => unary(alloc, at, Function::Not, arg, sight, patterns, maker),
         Form::Binary { op, left, right } => {
             let mut parts = Parts::new(alloc);
-            add(alloc, left.get(), columns, &mut parts, patterns, maker)?;
-            add(alloc, right.get(), columns, &mut parts, patterns, maker)?;
+            add(alloc, left.get(), sight, &mut parts, patterns, maker)?;
+            add(alloc, right.get(), sight, &mut parts, patterns, maker)?;
             let literal = literal_of(right.get());
             completed(alloc, at, function_of(*op), parts, literal, patterns, maker)
         }
@@ -89,15 +129,8 @@ fn typed<M: Maker>(
             items,
         } => {
             let mut parts = Parts::new(alloc);
-            add(alloc, left.get(), columns, &mut parts, patterns, maker)?;
-            add_all(
-                alloc,
-                items.as_slice(),
-                columns,
-                &mut parts,
-                patterns,
-                maker,
-            )?;
+            add(alloc, left.get(), sight, &mut parts, patterns, maker)?;
+            add_all(alloc, items.as_slice(), sight, &mut parts, patterns, maker)?;
             let literal = literal_at(items.as_slice(), 0);
             completed(
                 alloc,
@@ -116,13 +149,13 @@ fn typed<M: Maker>(
             pattern,
         } => {
             let function = like_function(*negated, *regex);
-            like(alloc, at, function, left, pattern, columns, patterns, maker)
+            like(alloc, at, function, left, pattern, sight, patterns, maker)
         }
         Form::IsNull { negated, arg } => {
             let function = null_function(*negated);
-            unary(alloc, at, function, arg, columns, patterns, maker)
+            unary(alloc, at, function, arg, sight, patterns, maker)
         }
-        Form::Cast { arg, kind } => cast(alloc, at, arg, kind, columns, patterns, maker),
+        Form::Cast { arg, kind } => cast(alloc, at, arg, kind, sight, patterns, maker),
     }
 }
 
@@ -132,14 +165,14 @@ fn typed<M: Maker>(
 fn add<M: Maker>(
     alloc: Global,
     expr: &Expr,
-    columns: &[OutColumn],
+    sight: &Sight<'_>,
     parts: &mut Parts,
     patterns: &mut Patterns,
     maker: &mut M,
 ) -> Result<(), AnalyzeError>
-    ensures { AreAnswer columns.now (expr.now ∷ []) parts.old parts.new patterns.old patterns.new (marks_of M.refused M.last maker.old) (marks_of M.refused M.last maker.new) result }
+    ensures { AreAnswer (over_of sight.now) (expr.now ∷ []) parts.old parts.new patterns.old patterns.new (marks_of M.refused M.last maker.old) (marks_of M.refused M.last maker.new) result }
 {
-    let part = typed(alloc, expr, columns, patterns, maker)?;
+    let part = typed(alloc, expr, sight, patterns, maker)?;
     parts.push(part, expr.span)?;
     Ok(())
 }
@@ -149,15 +182,15 @@ fn add<M: Maker>(
 fn add_all<M: Maker>(
     alloc: Global,
     exprs: &[Expr],
-    columns: &[OutColumn],
+    sight: &Sight<'_>,
     parts: &mut Parts,
     patterns: &mut Patterns,
     maker: &mut M,
 ) -> Result<(), AnalyzeError>
-    ensures { AreAnswer columns.now exprs.now parts.old parts.new patterns.old patterns.new (marks_of M.refused M.last maker.old) (marks_of M.refused M.last maker.new) result }
+    ensures { AreAnswer (over_of sight.now) exprs.now parts.old parts.new patterns.old patterns.new (marks_of M.refused M.last maker.old) (marks_of M.refused M.last maker.new) result }
 {
     for expr in exprs {
-        add(alloc, expr, columns, parts, patterns, maker)?;
+        add(alloc, expr, sight, parts, patterns, maker)?;
     }
     Ok(())
 }
@@ -169,14 +202,14 @@ fn unary<M: Maker>(
     at: NodeAt,
     function: Function,
     arg: &Boxed<Expr>,
-    columns: &[OutColumn],
+    sight: &Sight<'_>,
     patterns: &mut Patterns,
     maker: &mut M,
 ) -> Result<TypedExpr, AnalyzeError>
-    ensures { IsAnswer (applied_to at.node at.span function (arg.now ∷ [])) columns.now patterns.old patterns.new (marks_of M.refused M.last maker.old) (marks_of M.refused M.last maker.new) result }
+    ensures { IsAnswer (applied_to at.node at.span function (arg.now ∷ [])) (over_of sight.now) patterns.old patterns.new (marks_of M.refused M.last maker.old) (marks_of M.refused M.last maker.new) result }
 {
     let mut parts = Parts::new(alloc);
-    add(alloc, arg.get(), columns, &mut parts, patterns, maker)?;
+    add(alloc, arg.get(), sight, &mut parts, patterns, maker)?;
     completed(alloc, at, function, parts, None, patterns, maker)
 }
 
@@ -189,14 +222,14 @@ fn like<M: Maker>(
     function: Function,
     left: &Boxed<Expr>,
     pattern: &TextAt,
-    columns: &[OutColumn],
+    sight: &Sight<'_>,
     patterns: &mut Patterns,
     maker: &mut M,
 ) -> Result<TypedExpr, AnalyzeError>
-    ensures { IsAnswer (applied_to at.node at.span function (left.now ∷ pattern_expr at.node pattern.now ∷ [])) columns.now patterns.old patterns.new (marks_of M.refused M.last maker.old) (marks_of M.refused M.last maker.new) result }
+    ensures { IsAnswer (applied_to at.node at.span function (left.now ∷ pattern_expr at.node pattern.now ∷ [])) (over_of sight.now) patterns.old patterns.new (marks_of M.refused M.last maker.old) (marks_of M.refused M.last maker.new) result }
 {
     let mut parts = Parts::new(alloc);
-    add(alloc, left.get(), columns, &mut parts, patterns, maker)?;
+    add(alloc, left.get(), sight, &mut parts, patterns, maker)?;
     parts.push_pattern(alloc, at.node, pattern)?;
     let literal = Some(pattern.text.as_str());
     completed(alloc, at, function, parts, literal, patterns, maker)
@@ -210,22 +243,22 @@ fn cast<M: Maker>(
     at: NodeAt,
     arg: &Boxed<Expr>,
     kind: &NameAt,
-    columns: &[OutColumn],
+    sight: &Sight<'_>,
     patterns: &mut Patterns,
     maker: &mut M,
 ) -> Result<TypedExpr, AnalyzeError>
-    ensures { IsAnswer (readings_at at.node at.span (cast_by (cast_named kind.now.name) (part_of typing arg.now) kind.now.span) (cast_by (cast_named kind.now.name) (part_of judged arg.now) kind.now.span) (cast_by (cast_named kind.now.name) (part_of regulars_in arg.now) kind.now.span)) columns.now patterns.old patterns.new (marks_of M.refused M.last maker.old) (marks_of M.refused M.last maker.new) result }
+    ensures { IsAnswer (readings_at at.node at.span (cast_by (cast_named kind.now.name) (part_of typing arg.now) kind.now.span) (cast_by (cast_named kind.now.name) (part_of judged arg.now) kind.now.span) (cast_by (cast_named kind.now.name) (part_of regulars_in arg.now) kind.now.span)) (over_of sight.now) patterns.old patterns.new (marks_of M.refused M.last maker.old) (marks_of M.refused M.last maker.new) result }
 {
     let mut parts = Parts::new(alloc);
-    add(alloc, arg.get(), columns, &mut parts, patterns, maker)?;
+    add(alloc, arg.get(), sight, &mut parts, patterns, maker)?;
     match cast_function(kind.name.as_str()) {
         Some(function) => { completed(alloc, at, function, parts, None, patterns, maker) }
         None => broken(NameRule::BadKind, kind.span),
     }
 }
 
-/// A call. A name that is no function is refused before its arguments are looked at, and so is an aggregate, which stands in
-/// STATS alone, and another number of arguments than the function takes.
+/// A call. A name that is no function is refused before its arguments are looked at, and so is another number of arguments
+/// than the function takes.
 #[cycle(typed)]
 #[tactic(none)]
 fn call<M: Maker>(
@@ -234,16 +267,16 @@ fn call<M: Maker>(
     function: &NameAt,
     args: &Seq<Expr>,
     star: bool,
-    columns: &[OutColumn],
+    sight: &Sight<'_>,
     patterns: &mut Patterns,
     maker: &mut M,
 ) -> Result<TypedExpr, AnalyzeError>
-    ensures { IsAnswer (readings_at at.node at.span (call_by (function_named function.now.name) (aggregate_named function.now.name) function.now.span star (typings args.now) at.span) (call_by (function_named function.now.name) (aggregate_named function.now.name) function.now.span star (judgeds args.now) at.span) (call_by (function_named function.now.name) (aggregate_named function.now.name) function.now.span star (regular_parts args.now) at.span)) columns.now patterns.old patterns.new (marks_of M.refused M.last maker.old) (marks_of M.refused M.last maker.new) result }
+    ensures { IsAnswer (readings_at at.node at.span (call_by (function_named function.now.name) (aggregate_named function.now.name) function.now.span star (typings args.now) at.span) (call_by (function_named function.now.name) (aggregate_named function.now.name) function.now.span star (judgeds args.now) at.span) (call_by (function_named function.now.name) (aggregate_named function.now.name) function.now.span star (regular_parts args.now) at.span)) (over_of sight.now) patterns.old patterns.new (marks_of M.refused M.last maker.old) (marks_of M.refused M.last maker.new) result }
 {
     let name = function.name.as_str();
     match (find_function(name), find_aggregate(name)) {
-        (Some(row), _) => call_of(alloc, at, row, args, star, columns, patterns, maker),
-        (None, Some(_)) => broken(NameRule::NestedAggregate, at.span),
+        (Some(row), _) => call_of(alloc, at, row, args, star, sight, patterns, maker),
+        (None, Some(found)) => aggregate(alloc, at, found, args, star, sight, maker),
         (None, None) => broken(NameRule::UnknownFunction, function.span),
     }
 }
@@ -256,20 +289,54 @@ fn call_of<M: Maker>(
     row: FunctionRow,
     args: &Seq<Expr>,
     star: bool,
-    columns: &[OutColumn],
+    sight: &Sight<'_>,
     patterns: &mut Patterns,
     maker: &mut M,
 ) -> Result<TypedExpr, AnalyzeError>
     requires { FewAreTaken row }
-    ensures { IsAnswer (readings_at at.node at.span (call_of row star (typings args.now) at.span) (call_of row star (judgeds args.now) at.span) (call_of row star (regular_parts args.now) at.span)) columns.now patterns.old patterns.new (marks_of M.refused M.last maker.old) (marks_of M.refused M.last maker.new) result }
+    ensures { IsAnswer (readings_at at.node at.span (call_of row star (typings args.now) at.span) (call_of row star (judgeds args.now) at.span) (call_of row star (regular_parts args.now) at.span)) (over_of sight.now) patterns.old patterns.new (marks_of M.refused M.last maker.old) (marks_of M.refused M.last maker.new) result }
 {
     if star || !takes(row, args.len()) {
         return broken(NameRule::BadArguments, at.span);
     }
     let mut parts = Parts::new(alloc);
-    add_all(alloc, args.as_slice(), columns, &mut parts, patterns, maker)?;
+    add_all(alloc, args.as_slice(), sight, &mut parts, patterns, maker)?;
     let literal = literal_at(args.as_slice(), 1);
     completed(alloc, at, row.function, parts, literal, patterns, maker)
+}
+
+/// An aggregate, which may be called in a field of STATS, and in no aggregate. The patterns of its argument are read again
+/// where the argument itself is written: here it is only judged.
+#[cycle(typed)]
+#[tactic(none)]
+fn aggregate<M: Maker>(
+    alloc: Global,
+    at: NodeAt,
+    function: AggFunction,
+    args: &Seq<Expr>,
+    star: bool,
+    sight: &Sight<'_>,
+    maker: &mut M,
+) -> Result<TypedExpr, AnalyzeError>
+    ensures { AddsNoPattern (aggregate_of at.node at.span function star args.now) (over_of sight.now) (marks_of M.refused M.last maker.old) (marks_of M.refused M.last maker.new) result }
+{
+    if !sight.in_field {
+        return broken(NameRule::NestedAggregate, at.span);
+    }
+    if star {
+        return star_call(alloc, at.node, at.span, function, sight.calls);
+    }
+    if args.len() != 1 {
+        return broken(NameRule::BadArguments, at.span);
+    }
+    let arg = &args.as_slice()[0];
+    let mut patterns = Patterns {
+        whole: Seq::new(alloc),
+        free: Seq::new(alloc),
+    };
+    let within = sight.within_aggregate();
+    let argument = typed(alloc, arg, &within, &mut patterns, maker)?;
+    argument_call(alloc, at.node, arg.span, function, argument, sight.calls)
 }
 
 fn broken(rule: NameRule, span: Span) -> Result<TypedExpr, AnalyzeError>

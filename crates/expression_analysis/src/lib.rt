@@ -3,6 +3,7 @@
 //! Read its specs in this order: `Answers`, `Calls`, `Steps`.
 #![tactic(auto)]
 
+mod aggregates;
 mod calls;
 mod columns;
 mod constants;
@@ -10,8 +11,9 @@ mod error;
 mod expression;
 mod parts;
 mod patterns;
+mod sight;
 #[cfg(test)]
 mod tests;
 
 pub use error::AnalyzeError;
-pub use expression::typed_expr;
+pub use expression::{typed_expr, typed_field};
