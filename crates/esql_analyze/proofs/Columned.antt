@@ -6,7 +6,7 @@ use Rattle.esql_types.specs.declared.names.ColId.{ColId}
 use Rattle.esql_ast.specs.declared.expr.Expr.{Expr}
 use Rattle.row_semantics.specs.Forms.{Seen, constant, named, same, applied, aggregate, refused, Reader, read_by}
 use Rattle.row_semantics.specs.Typed.{Visible, Typing, typing, typing_of}
-use Rattle.query_semantics.specs.Written.{column_of_typed}
+use Rattle.query_semantics.specs.Writings.{column_of_typed}
 use Rattle.query_semantics.proofs.Inputs.{column_of_call}
 use Rattle.query_semantics.proofs.Readings.{seen_with, read_made}
 

@@ -9,7 +9,8 @@ use Rattle.row_semantics.specs.declared.rule.NameRule.TheVariants as rule
 use Rattle.row_semantics.specs.Kinds.{and_then}
 use Rattle.row_semantics.specs.Regulars.{Regular, is_accepted}
 use Rattle.query_semantics.specs.Shapes.{Shape, shape_of_kind, unless_empty, shape_of_command}
-use Rattle.query_semantics.specs.Written.{Writing, write_kind, write_command}
+use Rattle.query_semantics.specs.Writings.{Writing}
+use Rattle.query_semantics.specs.Written.{write_kind, write_command}
 use Rattle.expression_analysis.specs.declared.error.AnalyzeError.{AnalyzeError}
 use Rattle.expression_analysis.specs.declared.error.AnalyzeError.TheVariants.{Broken as BrokenAt, PatternRoom, Memory}
 use Rattle.expression_analysis.specs.Answers.{IsUntouched}

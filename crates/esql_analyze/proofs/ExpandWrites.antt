@@ -13,7 +13,8 @@ use Rattle.row_semantics.specs.Scopes.{column_named}
 use Rattle.row_semantics.specs.Kinds.{and_then, kind_of_column}
 use Rattle.row_semantics.specs.Typed.{visible_named}
 use Rattle.query_semantics.specs.Shapes.{Shape, shape_of_expand}
-use Rattle.query_semantics.specs.Written.{column_at, renumbered, write_expand_of, write_expand}
+use Rattle.query_semantics.specs.Writings.{column_at}
+use Rattle.query_semantics.specs.Written.{renumbered, write_expand_of, write_expand}
 use Rattle.query_semantics.proofs.Named.{columns-renumbered}
 use Rattle.esql_analyze.specs.declared.writing.Writing.{Writing as Made}
 use Rattle.esql_analyze.specs.Writings.{seen}

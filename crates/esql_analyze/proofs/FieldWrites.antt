@@ -13,7 +13,8 @@ use Rattle.row_semantics.specs.Scopes.{Broken}
 use Rattle.row_semantics.specs.Kinds.{and_then, kind_or_rule}
 use Rattle.row_semantics.specs.Typed.{typing_of}
 use Rattle.query_semantics.specs.Shapes.{Shape, shape_of_field}
-use Rattle.query_semantics.specs.Written.{put_visible, column_at, typed_in, write_field}
+use Rattle.query_semantics.specs.Writings.{put_visible, column_at, typed_in}
+use Rattle.query_semantics.specs.Written.{write_field}
 use Rattle.query_semantics.proofs.Named.{columns_put}
 use Rattle.expression_analysis.specs.Answers.{scope_of}
 use Rattle.esql_analyze.specs.declared.writing.Writing.{Writing as Made}

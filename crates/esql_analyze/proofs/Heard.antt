@@ -1,5 +1,5 @@
 -- What the maker is heard to say in a part is heard of the whole, where it said nothing before.
-use Rattle.std.proofs.Common.{◌≡◌, inl, inr, ℕ, zero, suc, ◌<◌, ◌≤◌, List, [], ◌∷◌, ◌++◌, length, get_or, subst, ◌∙◌, arith}
+use Rattle.std.proofs.Common.{◌≡◌, inl, inr, ℕ, zero, suc, ◌<◌, ◌≤◌, List, [], ◌∷◌, ◌++◌, length, get_or, Result, Ok, Err, subst, ◌∙◌, arith}
 use Rattle.std.specs.List.{flat_map}
 use Rattle.esql_types.specs.declared.places.Span.{Span}
 use Rattle.esql_types.specs.Counts.{Rose}
@@ -7,7 +7,7 @@ use Rattle.row_semantics.specs.Regulars.{Regular}
 use Rattle.expression_analysis.specs.declared.error.AnalyzeError.{AnalyzeError}
 use Rattle.expression_analysis.specs.declared.error.AnalyzeError.TheVariants.{Broken, PatternRoom, Memory}
 use Rattle.expression_analysis.specs.Answers.{OneIsNoted, IsUntouched}
-use Rattle.esql_analyze.specs.Answers.{IsHeard}
+use Rattle.esql_analyze.specs.Answers.{IsHeard, Hears}
 
 -- what is noted of a part is noted of the whole
 abbrev pub IsWithin : List Regular → List Regular → Type 0
@@ -38,3 +38,9 @@ heard_more count last these those old mid new (PatternRoom span) first within he
   subst (λ n. n ≤ count new) first.counted heard.1,
 )
 heard_more count last these those old mid new (Memory error) first within heard = untouched_more count last old mid new first heard
+
+-- what is heard behind something that did not ask the maker
+pub hears_more : {M A : Type 0} (count : M → ℕ) (last : M → List ℕ) (these those : List Regular) (old mid new : M) (result : Result A AnalyzeError) → IsUntouched count last old mid → IsWithin these those
+    → Hears count last these mid new result → Hears count last those old new result
+hears_more count last these those old mid new (Ok value) first within heard = untouched_more count last old mid new first heard
+hears_more count last these those old mid new (Err error) first within heard = heard_more count last these those old mid new error first within heard

@@ -5,7 +5,7 @@ use Rattle.esql_types.specs.declared.names.ColId.{ColId}
 use Rattle.esql_ast.specs.declared.expr.Expr.{Expr}
 use Rattle.esql_plan.specs.declared.typed.TypedExpr.{TypedExpr}
 use Rattle.row_semantics.specs.Typed.{typing_of}
-use Rattle.query_semantics.specs.Written.{typed_in, column_of_typed, write_input_by, write_input}
+use Rattle.query_semantics.specs.Writings.{typed_in, column_of_typed, write_input_by, write_input}
 use Rattle.esql_analyze.specs.declared.writing.Writing.{Writing as Made}
 use Rattle.esql_analyze.specs.Writings.{seen}
 use Rattle.esql_analyze.proofs.Columned.{columns_bare}

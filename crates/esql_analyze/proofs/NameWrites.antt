@@ -16,7 +16,8 @@ use Rattle.row_semantics.specs.declared.rule.NameRule.{NameRule}
 use Rattle.row_semantics.specs.declared.rule.NameRule.TheVariants as rule
 use Rattle.row_semantics.specs.Columns.{names_of}
 use Rattle.query_semantics.specs.Shapes.{Shape, unless_unmet, shape_of_keep, shape_of_drop, unless_missing, shape_of_rename}
-use Rattle.query_semantics.specs.Written.{visible_names, visible_as, write_keep, write_drop, write_rename}
+use Rattle.query_semantics.specs.Writings.{visible_names, visible_as}
+use Rattle.query_semantics.specs.Written.{write_keep, write_drop, write_rename}
 use Rattle.query_semantics.proofs.Named.{names_of-columns, columns-kept, columns-left, columns-renamed}
 use Rattle.expression_analysis.specs.declared.error.AnalyzeError.{AnalyzeError}
 use Rattle.expression_analysis.specs.declared.error.AnalyzeError.TheVariants.{Broken as BrokenAt, PatternRoom, Memory}

@@ -8,7 +8,7 @@ use Rattle.std.proofs.lemmas.Option.{slice_get-map}
 use Rattle.std.proofs.lemmas.List.{append-nil, take_more}
 use Rattle.esql_ast.specs.NameRules.{Renaming, at_places, renamed_by}
 use Rattle.esql_plan.specs.declared.plan.OutColumn.{OutColumn}
-use Rattle.query_semantics.specs.Written.{visible_names, visible_as}
+use Rattle.query_semantics.specs.Writings.{visible_names, visible_as}
 use Rattle.esql_analyze.specs.declared.columns.Shown.{Shown}
 use Rattle.esql_analyze.specs.Writings.{shown_of, under_name, joined, shown_under}
 

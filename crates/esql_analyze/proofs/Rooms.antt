@@ -1,16 +1,13 @@
 -- What is written takes room for as many columns, and as many patterns of each kind, as there are nodes at most.
-use Rattle.std.proofs.Common.{◌≡◌, ℕ, ◌+◌, ◌<◌, ◌≤◌, Bool, true, false, not, cond, ◌||◌, eqb, List, [], ◌∷◌, filter, length, fold, All, Option, Some, None, refl, arith}
+use Rattle.std.proofs.Common.{◌≡◌, ℕ, ◌+◌, ◌*◌, ◌<◌, ◌≤◌, Bool, true, false, not, cond, ◌||◌, eqb, List, [], ◌∷◌, filter, length, fold, All, Option, Some, None, refl, ap, arith}
 use Rattle.std.specs.Prelude.{slice_get}
 use Rattle.std.specs.List.{flat_map, filter_map, cons_option, list_any}
 use Rattle.std.specs.Option.{option_map}
-use Rattle.std.specs.Str.{bytes_eq}
 use Rattle.std.proofs.lemmas.Bool.Decides.{nat_tests}
 use Rattle.std.proofs.lemmas.List.{length-append, length-map}
 use Rattle.std.proofs.lemmas.List.Elements.{All-head, All-tail, All-weaker}
 use Rattle.std.proofs.lemmas.Map.Steps.{length-le_from_distinct_below}
 use Rattle.esql_types.specs.declared.names.NodeId.{NodeId}
-use Rattle.esql_types.specs.declared.names.ColId.{ColId}
-use Rattle.esql_types.specs.declared.value.Kind.{Kind}
 use Rattle.esql_ast.specs.declared.expr.Expr.{Expr}
 use Rattle.esql_ast.specs.declared.query.Field.{Field}
 use Rattle.esql_ast.specs.declared.query.SortKey.{SortKey}
@@ -25,18 +22,15 @@ use Rattle.esql_ast.specs.Nodes.{nodes_of_expr, nodes_of_field, nodes_of_key, no
 use Rattle.esql_ast.proofs.KeptOnce.{kept_differ, kept_are_won}
 use Rattle.esql_plan.specs.declared.plan.OutColumn.{OutColumn}
 use Rattle.row_semantics.specs.Typed.{typing_of, visible_named}
-use Rattle.query_semantics.specs.Written.{Writing, put_visible, visible_names, visible_as, typed_in, write_field, write_fields, write_condition, column_of_typed, write_input_by, write_input, write_keys, write_sort, renumbered, write_expand_of, write_expand, write_kind, write_command}
+use Rattle.query_semantics.specs.Writings.{Writing, visible_names, visible_as, typed_in, write_input}
+use Rattle.query_semantics.specs.Written.{write_field, write_fields, write_condition, write_keys, write_sort, renumbered, write_expand_of, write_expand, write_kind, write_command}
 use Rattle.row_semantics.specs.Fields.{name_of_field}
 use Rattle.esql_analyze.specs.Writings.{HasRoom}
 use Rattle.esql_analyze.proofs.Expressions.{patterns_at_most, some_node}
+use Rattle.esql_analyze.proofs.PlainRooms.{filter_shorter, put_shown, less_room, same_room, input_room}
+use Rattle.esql_analyze.proofs.StatsRooms.{stats_room}
 
 -- lengths -------------------------------------------------------------------------------------------------------------------
-
-filter_shorter : {A : Type 0} (test : A → Bool) (xs : List A) → length (filter test xs) ≤ length xs
-filter_shorter test [] = omega arith
-filter_shorter test (x ∷ xs) =
-    let rest = filter_shorter test xs in
-    elim (test x) as (λ passes. length (cond passes (x ∷ filter test xs) (filter test xs)) ≤ length (x ∷ xs)) [ true ↦ omega (arith, rest) | false ↦ omega (arith, rest) ]
 
 found_shorter : {A B : Type 0} (f : A → Option B) (xs : List A) → length (filter_map f xs) ≤ length xs
 found_shorter f [] = omega arith
@@ -102,11 +96,6 @@ renamed_shown pairs visible =
       names_as_many visible,
     )
 
-put_shown : (visible : List OutColumn) (name : List ℕ) (kind : Kind) (number : ℕ) → length (put_visible visible name kind number) ≤ length visible + 1
-put_shown visible name kind number =
-    let kept : List OutColumn = filter (λ (column : OutColumn). not (bytes_eq column.name name)) visible in
-    omega (arith, length-append kept (record { name = name; kind = kind; id = record { 0 = number } } ∷ []), filter_shorter (λ (column : OutColumn). not (bytes_eq column.name name)) visible)
-
 -- room ----------------------------------------------------------------------------------------------------------------------
 
 pub field_room : (text : List ℕ) (field : Field) (writing : Writing) (more : ℕ) → HasRoom writing (length (nodes_of_field field) + more) → HasRoom (write_field text writing field) more
@@ -115,25 +104,25 @@ field_room text field writing more room =
     let some = some_node field.expr in
     let shown = put_shown writing.visible (name_of_field text field) (typed_in writing field.expr).kind writing.next in
     record {
-      shown = omega (arith, room.shown, shown);
+      shown = omega (arith, room.shown, shown, some);
       columns = omega (arith, room.columns, some);
       whole = omega (arith, room.whole, most.whole, length-append writing.whole (typing_of field.expr).whole);
       free = omega (arith, room.free, most.free, length-append writing.free (typing_of field.expr).free);
     }
 
 pub fields_room : (text : List ℕ) (fields : List Field) (writing : Writing) (more : ℕ) → HasRoom writing (length (flat_map nodes_of_field fields) + more) → HasRoom (write_fields text fields writing) more
-fields_room text [] writing more room = record { shown = room.shown; columns = omega (arith, room.columns); whole = omega (arith, room.whole); free = omega (arith, room.free) }
+fields_room text [] writing more room = record { shown = omega (arith, room.shown); columns = omega (arith, room.columns); whole = omega (arith, room.whole); free = omega (arith, room.free) }
 fields_room text (field ∷ fields) writing more room =
     let both = length-append (nodes_of_field field) (flat_map nodes_of_field fields) in
     let ahead : HasRoom writing (length (nodes_of_field field) + (length (flat_map nodes_of_field fields) + more)) =
-    record { shown = room.shown; columns = omega (arith, room.columns, both); whole = omega (arith, room.whole, both); free = omega (arith, room.free, both) } in
+    record { shown = omega (arith, room.shown, both); columns = omega (arith, room.columns, both); whole = omega (arith, room.whole, both); free = omega (arith, room.free, both) } in
     fields_room text fields (write_field text writing field) more (field_room text field writing _ ahead)
 
 condition_room : (node : NodeId) (condition : Expr) (writing : Writing) (more : ℕ) → HasRoom writing (length (nodes_of_expr condition) + more) → HasRoom (write_condition node condition writing) more
 condition_room node condition writing more room =
     let most = patterns_at_most condition in
     record {
-      shown = room.shown;
+      shown = omega (arith, room.shown);
       columns = omega (arith, room.columns);
       whole = omega (arith, room.whole, most.whole, length-append writing.whole (typing_of condition).whole);
       free = omega (arith, room.free, most.free, length-append writing.free (typing_of condition).free);
@@ -144,30 +133,12 @@ fewer_room : (writing : Writing) (visible : List OutColumn) (taken more : ℕ) �
 fewer_room writing visible taken more fewer room =
     record { shown = omega (arith, room.shown, fewer); columns = omega (arith, room.columns); whole = omega (arith, room.whole); free = omega (arith, room.free) }
 
-same_room : (writing : Writing) (taken more : ℕ) → HasRoom writing (taken + more) → HasRoom writing more
-same_room writing taken more room = record { shown = room.shown; columns = omega (arith, room.columns); whole = omega (arith, room.whole); free = omega (arith, room.free) }
-
-pub input_room : (expr : Expr) (writing : Writing) (more : ℕ) → HasRoom writing (length (nodes_of_expr expr) + more) → HasRoom (write_input writing expr) more
-input_room expr writing more room = by_column (column_of_typed (typed_in writing expr))
-  where
-    by_column : (found : Option ColId) → HasRoom (write_input_by found expr writing) more
-    by_column (Some id) = same_room writing _ more room
-    by_column None =
-        let most = patterns_at_most expr in
-        let some = some_node expr in
-        record {
-          shown = omega (arith, room.shown);
-          columns = omega (arith, room.columns, some);
-          whole = omega (arith, room.whole, most.whole, length-append writing.whole (typing_of expr).whole);
-          free = omega (arith, room.free, most.free, length-append writing.free (typing_of expr).free);
-        }
-
 keys_room : (keys : List SortKey) (writing : Writing) (more : ℕ) → HasRoom writing (length (flat_map nodes_of_key keys) + more) → HasRoom (write_keys keys writing) more
 keys_room [] writing more room = same_room writing 0 more room
 keys_room (key ∷ keys) writing more room =
     let both = length-append (nodes_of_key key) (flat_map nodes_of_key keys) in
     let ahead : HasRoom writing (length (nodes_of_key key) + (length (flat_map nodes_of_key keys) + more)) =
-    record { shown = room.shown; columns = omega (arith, room.columns, both); whole = omega (arith, room.whole, both); free = omega (arith, room.free, both) } in
+    record { shown = omega (arith, room.shown, both); columns = omega (arith, room.columns, both); whole = omega (arith, room.whole, both); free = omega (arith, room.free, both) } in
     keys_room keys (write_input writing key.expr) more (input_room key.expr writing _ ahead)
 
 sort_room : (keys : List SortKey) (writing : Writing) (more : ℕ) → HasRoom writing (length (flat_map nodes_of_key keys) + more) → HasRoom (write_sort keys writing) more
@@ -183,27 +154,27 @@ expand_room name writing more room = by_column (visible_named writing.visible na
         record { shown = omega (arith, room.shown, shown); columns = omega (arith, room.columns); whole = omega (arith, room.whole); free = omega (arith, room.free) }
 
 -- a command's own node has room for the column that MV_EXPAND makes
-kind_room : (text : List ℕ) (node : NodeId) (kind : CommandKind) (writing : Writing) (more : ℕ) → HasRoom writing (length (nodes_of_kind kind) + more) → HasRoom writing (1 + more) → HasRoom (write_kind text node kind writing) more
-kind_room text node (Filter condition) writing more room own = condition_room node condition writing more room
-kind_room text node (Eval fields) writing more room own = fields_room text fields writing more room
-kind_room text node (Keep patterns) writing more room own = fewer_room writing _ 0 more (kept_shown patterns writing.visible) room
-kind_room text node (Drop patterns) writing more room own = fewer_room writing _ 0 more (left_shown patterns writing.visible) room
-kind_room text node (Rename pairs) writing more room own = fewer_room writing _ 0 more (renamed_shown pairs writing.visible) room
-kind_room text node (Limit count) writing more room own = record { shown = room.shown; columns = omega (arith, room.columns); whole = omega (arith, room.whole); free = omega (arith, room.free) }
-kind_room text node (Sort keys) writing more room own = sort_room keys writing more room
-kind_room text node (Expand column) writing more room own = expand_room column.name writing more own
-kind_room text node (Stats fields groups) writing more room own = same_room writing _ more room
-kind_room text node (Dissect input pattern separator) writing more room own = same_room writing _ more room
-kind_room text node (Grok input pattern) writing more room own = same_room writing _ more room
-kind_room text node (Enrich policy on fields) writing more room own = same_room writing _ more room
-kind_room text node (Join table on) writing more room own = same_room writing _ more room
+kind_room : (text : List ℕ) (node : NodeId) (kind : CommandKind) (writing : Writing) (more : ℕ) → HasRoom writing (2 * length (nodes_of_kind kind) + (2 + more)) → HasRoom (write_kind text node kind writing) more
+kind_room text node (Filter condition) writing more room = condition_room node condition writing more (less_room writing _ _ (omega arith) room)
+kind_room text node (Eval fields) writing more room = fields_room text fields writing more (less_room writing _ _ (omega arith) room)
+kind_room text node (Keep patterns) writing more room = fewer_room writing _ 0 more (kept_shown patterns writing.visible) (less_room writing _ _ (omega arith) room)
+kind_room text node (Drop patterns) writing more room = fewer_room writing _ 0 more (left_shown patterns writing.visible) (less_room writing _ _ (omega arith) room)
+kind_room text node (Rename pairs) writing more room = fewer_room writing _ 0 more (renamed_shown pairs writing.visible) (less_room writing _ _ (omega arith) room)
+kind_room text node (Limit count) writing more room = let less = less_room writing _ more (omega arith) room in record { shown = less.shown; columns = less.columns; whole = less.whole; free = less.free }
+kind_room text node (Sort keys) writing more room = sort_room keys writing more (less_room writing _ _ (omega arith) room)
+kind_room text node (Expand column) writing more room = expand_room column.name writing more (less_room writing _ _ (omega arith) room)
+kind_room text node (Stats fields groups) writing more room = stats_room text fields groups writing more (less_room writing _ _ (omega arith) room)
+kind_room text node (Dissect input pattern separator) writing more room = less_room writing _ more (omega arith) room
+kind_room text node (Grok input pattern) writing more room = less_room writing _ more (omega arith) room
+kind_room text node (Enrich policy on fields) writing more room = less_room writing _ more (omega arith) room
+kind_room text node (Join table on) writing more room = less_room writing _ more (omega arith) room
 
--- a command's own node comes before those of its expressions
-pub kinds_within : (command : Command) (writing : Writing) (more : ℕ) → HasRoom writing (length (nodes_of_command command) + more) → HasRoom writing (length (nodes_of_kind command.kind) + more)
-kinds_within command writing more room = record { shown = room.shown; columns = omega (arith, room.columns); whole = omega (arith, room.whole); free = omega (arith, room.free) }
+-- a command's own node comes before those of its expressions; it takes as many columns as twice its nodes at most
+pub command_room : (text : List ℕ) (command : Command) (writing : Writing) (more : ℕ) → HasRoom writing (2 * length (nodes_of_command command) + more) → HasRoom (write_command text writing command) more
+command_room text command writing more room = kind_room text command.node command.kind writing more (less_room writing _ _ (omega arith) room)
 
-pub own_within : (command : Command) (writing : Writing) (more : ℕ) → HasRoom writing (length (nodes_of_command command) + more) → HasRoom writing (1 + more)
-own_within command writing more room = record { shown = room.shown; columns = omega (arith, room.columns); whole = omega (arith, room.whole); free = omega (arith, room.free) }
-
-pub command_room : (text : List ℕ) (command : Command) (writing : Writing) (more : ℕ) → HasRoom writing (length (nodes_of_command command) + more) → HasRoom (write_command text writing command) more
-command_room text command writing more room = kind_room text command.node command.kind writing more (kinds_within command writing more room) (own_within command writing more room)
+-- what a command has room for has its expressions
+pub kind_has_room : (command : Command) (kind : CommandKind) (writing : Writing) → command.kind ≡ kind → HasRoom writing (2 * length (nodes_of_command command)) → HasRoom writing (2 + 2 * length (nodes_of_kind kind))
+kind_has_room command kind writing is room =
+    let nodes : length (nodes_of_kind command.kind) ≡ length (nodes_of_kind kind) = ap (λ (these : CommandKind). length (nodes_of_kind these)) is in
+    less_room writing (2 * length (nodes_of_command command)) (2 + 2 * length (nodes_of_kind kind)) (omega (arith, nodes)) room

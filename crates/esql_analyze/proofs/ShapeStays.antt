@@ -27,6 +27,7 @@ use Rattle.expression_analysis.specs.declared.error.AnalyzeError.TheVariants.{Br
 use Rattle.expression_analysis.specs.Answers.{accepted_but, IsRefusal}
 use Rattle.esql_analyze.specs.Contexts.{over, over_catalog}
 use Rattle.esql_analyze.proofs.Stays.{Stays, then_stays, expr_stays}
+use Rattle.esql_analyze.proofs.StatsStays.{stats_stay}
 
 -- what is refused behind something that is found refuses both
 pub refused_behind : {A B : Type 0} (first : (Regular → Bool) → Result A Broken) (next : (Regular → Bool) → A → Result B Broken) (value : A) (error : AnalyzeError) → Stays first → first is_accepted ≡ Ok value
@@ -109,7 +110,7 @@ kind_stays text (Rename pairs) columns span = inl refl
 kind_stays text (Sort keys) columns span = keys_stay text keys columns span
 kind_stays text (Limit count) columns span = inl refl
 kind_stays text (Expand column) columns span = inl refl
-kind_stays text (Stats fields groups) columns span = inl refl
+kind_stays text (Stats fields groups) columns span = stats_stay text fields groups columns span
 kind_stays text (Dissect input pattern separator) columns span = inl refl
 kind_stays text (Grok input pattern) columns span = inl refl
 kind_stays text (Enrich policy on fields) columns span = inl refl

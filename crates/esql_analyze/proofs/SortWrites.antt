@@ -12,7 +12,8 @@ use Rattle.row_semantics.specs.Regulars.{is_accepted}
 use Rattle.row_semantics.specs.Scopes.{Broken}
 use Rattle.row_semantics.specs.Kinds.{and_then, kind_or_rule}
 use Rattle.query_semantics.specs.Shapes.{Shape, shape_of_keys}
-use Rattle.query_semantics.specs.Written.{Writing, input_of, write_input, keys_in_plan, write_sort}
+use Rattle.query_semantics.specs.Writings.{Writing, input_of, write_input}
+use Rattle.query_semantics.specs.Written.{keys_in_plan, write_sort}
 use Rattle.expression_analysis.specs.declared.error.AnalyzeError.{AnalyzeError}
 use Rattle.expression_analysis.specs.Answers.{scope_of, IsRefusal}
 use Rattle.esql_analyze.specs.declared.writing.Writing.{Writing as Made}

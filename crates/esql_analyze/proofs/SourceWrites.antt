@@ -20,7 +20,8 @@ use Rattle.row_semantics.specs.Kinds.{breaks, and_then}
 use Rattle.row_semantics.specs.Regulars.{Regular}
 use Rattle.row_semantics.specs.Sources.{tables_named, table_named, with_column, clashes, with_table, with_tables, columns_of_tables, columns_or_none}
 use Rattle.query_semantics.specs.Shapes.{Shape, unless_empty}
-use Rattle.query_semantics.specs.Written.{Writing, numbered_from, scan_column, writing_of_columns}
+use Rattle.query_semantics.specs.Writings.{Writing}
+use Rattle.query_semantics.specs.Written.{numbered_from, scan_column, writing_of_columns}
 use Rattle.query_semantics.proofs.Named.{columns_of-numbered}
 use Rattle.expression_analysis.specs.declared.error.AnalyzeError.{AnalyzeError}
 use Rattle.expression_analysis.specs.declared.error.AnalyzeError.TheVariants as told_error

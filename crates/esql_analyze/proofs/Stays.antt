@@ -12,7 +12,7 @@ use Rattle.esql_plan.specs.Signatures.{misfit, kind_of_call}
 use Rattle.row_semantics.specs.declared.rule.NameRule.TheVariants as rule
 use Rattle.row_semantics.specs.Forms.{Part, Seen, constant, named, same, applied, aggregate, refused, Reader, read_by, function_in_plan, arguments_in_plan}
 use Rattle.row_semantics.specs.Regulars.{Regular, is_accepted}
-use Rattle.row_semantics.specs.Scopes.{Broken, Standing, elsewhere, in_field, in_aggregate, Scope}
+use Rattle.row_semantics.specs.Scopes.{Broken, Standing, elsewhere, in_field, Scope}
 use Rattle.row_semantics.specs.Kinds.{Judged, judged, breaks, and_then, kinds_of_parts, kind_of_applied, wrong_literal, regular_of, first_place, if_accepted, fitting, kind_of_argument, kind_of_aggregate, kind_of_standing, kind_or_rule}
 use Rattle.query_semantics.proofs.Readings.{parts_with, seen_with, read_made}
 use Rattle.expression_analysis.specs.Answers.{accepted_but, same_span}
@@ -91,14 +91,13 @@ aggregate_stays function true parts own columns standing span = inl refl
 aggregate_stays function false [] own columns standing span = inl refl
 aggregate_stays function false (part ∷ []) own columns standing span =
     let next : (Regular → Bool) → Kind → Result Kind Broken = λ accepts kind. kind_of_argument function kind part.span in
-    then_stays (λ accepts. part.reading.judges (record { columns = columns; standing = in_aggregate; accepts = accepts })) next (part.reading.is columns in_aggregate) (λ kind span. inl refl) span
+    then_stays (λ accepts. part.reading.judges (record { columns = columns; standing = elsewhere; accepts = accepts })) next (part.reading.is columns elsewhere) (λ kind span. inl refl) span
 aggregate_stays function false (part ∷ more ∷ parts) own columns standing span = inl refl
 
 standing_stays : (function : AggFunction) (star : Bool) (parts : List (Part Spared)) (own : Span) (columns : List Column) (standing : Standing)
     → Stays (λ accepts. kind_of_standing standing function star (parts_with the_judged parts) own (record { columns = columns; standing = standing; accepts = accepts }))
 standing_stays function star parts own columns elsewhere span = inl refl
 standing_stays function star parts own columns in_field span = aggregate_stays function star parts own columns in_field span
-standing_stays function star parts own columns in_aggregate span = inl refl
 
 applied_stays : (function : Function) (these : List (Part Judged)) (kinds : List Kind) (own : Span) (columns : List Column) (standing : Standing)
     → Stays (λ accepts. kind_of_applied function these kinds own (record { columns = columns; standing = standing; accepts = accepts }))

@@ -3,7 +3,7 @@ use Rattle.std.specs.Prelude.{◌≡◌, ◌≤◌, ℕ, Bool, List, Result, Ok,
 use Rattle.plan_semantics.specs.Plans.{columns_of}
 use Rattle.row_semantics.specs.Regulars.{Regular, is_accepted}
 use Rattle.query_semantics.specs.Shapes.{Shape}
-use Rattle.query_semantics.specs.Written.{Writing}
+use Rattle.query_semantics.specs.Writings.{Writing}
 use Rattle.expression_analysis.specs.declared.error.AnalyzeError.{AnalyzeError}
 use Rattle.expression_analysis.specs.declared.error.AnalyzeError.TheVariants.{Broken as BrokenAt, PatternRoom, Memory}
 use Rattle.expression_analysis.specs.Answers.{IsRefusal, IsTold, IsUntouched}

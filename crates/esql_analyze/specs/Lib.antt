@@ -4,3 +4,8 @@ pub mod Answers
 pub mod Names
 pub mod Regulars
 pub mod Plans
+pub mod CallsSeen
+pub mod Parts
+pub mod StatsRules
+pub mod StatsSeen
+pub mod Behind

@@ -10,7 +10,8 @@ use Rattle.row_semantics.specs.Kinds.{and_then}
 use Rattle.row_semantics.specs.Regulars.{Regular}
 use Rattle.row_semantics.specs.Sources.{tables_named, columns_of_tables, columns_or_none}
 use Rattle.query_semantics.specs.Shapes.{Shape, unless_empty}
-use Rattle.query_semantics.specs.Written.{Writing, Written, writing_of_columns, numbered_from, scan_column}
+use Rattle.query_semantics.specs.Writings.{Writing}
+use Rattle.query_semantics.specs.Written.{Written, writing_of_columns, numbered_from, scan_column}
 use Rattle.source_columns.specs.declared.refusals.SourceError.{SourceError}
 use Rattle.source_columns.specs.declared.refusals.SourceError.TheVariants as source_error
 use Rattle.expression_analysis.specs.declared.error.AnalyzeError.{AnalyzeError}

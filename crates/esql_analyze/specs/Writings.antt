@@ -4,16 +4,16 @@ use Rattle.std.specs.List.{filter_map}
 use Rattle.std.specs.Option.{option_map}
 use Rattle.esql_ast.specs.NameRules.{Renaming}
 use Rattle.esql_plan.specs.declared.plan.OutColumn.{OutColumn}
-use Rattle.query_semantics.specs.Written.{Writing}
+use Rattle.query_semantics.specs.Writings.{Writing}
 use Rattle.esql_analyze.specs.declared.writing.Writing.{Writing as Made}
 use Rattle.esql_analyze.specs.declared.columns.Shown.{Shown}
 
 abbrev pub seen : Made → Writing
 seen made = record { visible = made.visible; next = made.next; whole = made.patterns.whole; free = made.patterns.free; steps = made.steps }
 
--- there is room for as many more columns, and for as many more patterns of each kind
+-- there is room for as many more columns, seen or not, and for as many more patterns of each kind
 pub record HasRoom (writing : Writing) (more : ℕ) : Type 0 where
-  pub shown : length writing.visible ≤ writing.next
+  pub shown : length writing.visible + more ≤ 4294967295
   pub columns : writing.next + more ≤ 4294967295
   pub whole : length writing.whole + more ≤ 4294967295
   pub free : length writing.free + more ≤ 4294967295

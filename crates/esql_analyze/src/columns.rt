@@ -1,7 +1,8 @@
 ghost use Rattle.std.specs.Prelude.{◌≡◌, ◌≤◌, ◌++◌, [], ◌∷◌, not, map, length, IfOk, OnOk};
 ghost use Rattle.std.specs.Str.{bytes_eq};
 ghost use Rattle.esql_ast.specs.NameRules.{at_places};
-ghost use Rattle.query_semantics.specs.Written.{put_visible, visible_names, numbered_from, scan_column};
+ghost use Rattle.query_semantics.specs.Writings.{put_visible, visible_names};
+ghost use Rattle.query_semantics.specs.Written.{numbered_from, scan_column};
 ghost use Rattle.esql_analyze.specs.Writings.{shown_of, joined, shown_under};
 
 use esql_ast::Renamed;

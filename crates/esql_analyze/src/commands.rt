@@ -1,4 +1,4 @@
-ghost use Rattle.std.specs.Prelude.{◌≡◌, true, All, fold, length};
+ghost use Rattle.std.specs.Prelude.{◌≡◌, ◌*◌, true, All, fold, length};
 ghost use Rattle.std.specs.List.{flat_map};
 ghost use Rattle.esql_ast.specs.Fits.{KindFits};
 ghost use Rattle.esql_ast.specs.Nodes.{nodes_of_command};
@@ -15,6 +15,7 @@ use crate::expand::write_expand;
 use crate::fields::{write_condition, write_fields};
 use crate::names::{write_drop, write_keep, write_rename};
 use crate::sort::write_sort;
+use crate::stats::write_stats;
 use crate::writing::{Writing, unless_empty, write_limit};
 use esql_ast::{Command, CommandKind};
 use esql_types::Maker;
@@ -30,7 +31,7 @@ fn write_kind<M: Maker>(
 ) -> Result<Writing, AnalyzeError>
     requires fits { KindFits text.now command.now.kind }
     requires built { is_built_kind command.now.kind ≡ true }
-    requires room { HasRoom (seen writing) (length (nodes_of_command command.now)) }
+    requires room { HasRoom (seen writing) (2 * length (nodes_of_command command.now)) }
     ensures writes { Writes (λ accepts. shape_of_kind (over text.now accepts) command.now.kind (columns_of writing.visible)) (write_kind text.now command.now.node command.now.kind (seen writing)) result }
     ensures hears { Hears M.refused M.last (regulars_of_kind command.now.kind) maker.old maker.new result }
 {
@@ -47,6 +48,10 @@ fn write_kind<M: Maker>(
         CommandKind::Sort { keys } => write_sort(alloc, writing, keys.as_slice(), maker),
         CommandKind::Limit { count } => Ok(write_limit(*count, writing)?),
         CommandKind::Expand { column } => write_expand(alloc, writing, column),
+        CommandKind::Stats { fields, groups } => {
+            let groups = groups.as_slice();
+            write_stats(alloc, text, writing, fields.as_slice(), groups, maker)
+        }
         _ => unreachable!(),
     }
 }
@@ -61,7 +66,7 @@ fn write_command<M: Maker>(
 ) -> Result<Writing, AnalyzeError>
     requires fits { KindFits text.now command.now.kind }
     requires built { is_built_kind command.now.kind ≡ true }
-    requires room { HasRoom (seen writing) (length (nodes_of_command command.now)) }
+    requires room { HasRoom (seen writing) (2 * length (nodes_of_command command.now)) }
     ensures writes { Writes (λ accepts. shape_of_command (over text.now accepts) command.now (columns_of writing.visible)) (write_command text.now (seen writing) command.now) result }
     ensures hears { Hears M.refused M.last (regulars_of_command command.now) maker.old maker.new result }
 {
@@ -79,7 +84,7 @@ pub(crate) fn write_commands<M: Maker>(
 ) -> Result<Writing, AnalyzeError>
     requires fits { All (λ command. KindFits text.now command.kind) commands.now }
     requires built { All (λ command. is_built_kind command.kind ≡ true) commands.now }
-    requires room { HasRoom (seen writing) (length (flat_map nodes_of_command commands.now)) }
+    requires room { HasRoom (seen writing) (2 * length (flat_map nodes_of_command commands.now)) }
     ensures writes { Writes (λ accepts. shape_of_commands (over text.now accepts) commands.now (columns_of writing.visible)) (fold (write_command text.now) (seen writing) commands.now) result }
     ensures hears { Hears M.refused M.last (flat_map regulars_of_command commands.now) maker.old maker.new result }
 {

@@ -9,7 +9,8 @@ ghost use Rattle.esql_plan.specs.Signatures.{is_kind};
 ghost use Rattle.plan_semantics.specs.Plans.{columns_of};
 ghost use Rattle.row_semantics.specs.Fields.{column_of, name_of_field};
 ghost use Rattle.query_semantics.specs.Shapes.{shape_of_field, shape_of_fields, shape_of_condition};
-ghost use Rattle.query_semantics.specs.Written.{put_visible, column_at, write_field, write_fields, write_condition};
+ghost use Rattle.query_semantics.specs.Writings.{put_visible, column_at};
+ghost use Rattle.query_semantics.specs.Written.{write_field, write_fields, write_condition};
 ghost use Rattle.expression_analysis.specs.Answers.{regulars_of_expr};
 ghost use Rattle.esql_analyze.specs.Contexts.{over};
 ghost use Rattle.esql_analyze.specs.Writings.{seen, HasRoom};
@@ -36,7 +37,7 @@ fn column_of(expr: &Expr) -> Option<&Text>
 }
 
 /// The name of a field's column.
-fn name_of_field(alloc: Global, text: &str, field: &Field) -> Result<Text, AllocError>
+pub(crate) fn name_of_field(alloc: Global, text: &str, field: &Field) -> Result<Text, AllocError>
     requires { SpanFits text.now field.now.span }
     ensures { IfOk result (λ name. name ≡ name_of_field text.now field.now) }
 {

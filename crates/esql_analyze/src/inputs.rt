@@ -3,7 +3,7 @@ ghost use Rattle.esql_ast.specs.Nodes.{nodes_of_expr};
 ghost use Rattle.esql_plan.specs.declared.step.Step.TheVariants.{Eval};
 ghost use Rattle.row_semantics.specs.Kinds.{kind_or_rule};
 ghost use Rattle.row_semantics.specs.Regulars.{is_accepted};
-ghost use Rattle.query_semantics.specs.Written.{column_at, column_of_typed, input_of, write_input};
+ghost use Rattle.query_semantics.specs.Writings.{column_at, column_of_typed, input_of, write_input};
 ghost use Rattle.expression_analysis.specs.Answers.{scope_of, IsRefusal, regulars_of_expr};
 ghost use Rattle.esql_analyze.specs.Writings.{seen, HasRoom};
 ghost use Rattle.esql_analyze.specs.Answers.{Hears};
@@ -23,8 +23,8 @@ pub(crate) struct Input {
     pub(crate) writing: Writing,
 }
 
-// The column that an expression is.
-fn column_of(typed: &TypedExpr) -> Option<ColId>
+/// The column that an expression is.
+pub(crate) fn column_of(typed: &TypedExpr) -> Option<ColId>
     ensures { result ≡ column_of_typed typed.now }
 {
     match &typed.form {
@@ -33,8 +33,8 @@ fn column_of(typed: &TypedExpr) -> Option<ColId>
     }
 }
 
-// A column that cannot be seen is made of an expression.
-fn make_input(writing: Writing, typed: TypedExpr) -> Result<Input, AllocError>
+/// A column that cannot be seen is made of an expression.
+pub(crate) fn make_input(writing: Writing, typed: TypedExpr) -> Result<Input, AllocError>
     requires { writing.next < 4294967295 }
     ensures id { IfOk result (λ input. input.id ≡ column_at writing.next) }
     ensures kind { IfOk result (λ input. input.kind ≡ typed.kind) }

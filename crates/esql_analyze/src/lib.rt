@@ -1,8 +1,10 @@
 //! A query is judged and written as a plan in one pass: names become numbers, and regular expressions are built.
 //!
-//! Read its specs in this order: `Contexts`, `Writings`, `Answers`, `Names`, `Regulars`, `Plans`.
+//! Read its specs in this order: `Contexts`, `Writings`, `Answers`, `Names`, `Regulars`, `Plans`; those of STATS: `Parts`, `CallsSeen`,
+//! `StatsRules`, `StatsSeen`, `Behind`.
 #![tactic(auto)]
 
+mod calls;
 mod columns;
 mod commands;
 mod expand;
@@ -12,6 +14,9 @@ mod names;
 mod query;
 mod sort;
 mod source;
+mod stats;
+mod stats_inputs;
+mod stats_rules;
 mod writing;
 
 pub use expression_analysis::AnalyzeError;

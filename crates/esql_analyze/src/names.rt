@@ -2,7 +2,8 @@ ghost use Rattle.std.specs.Prelude.{◌≡◌, ◌<◌, length, IfErr, MatchResu
 ghost use Rattle.esql_ast.specs.NamePlaces.{IsNameRefusal, IsRenameRefusal};
 ghost use Rattle.plan_semantics.specs.Plans.{columns_of};
 ghost use Rattle.query_semantics.specs.Shapes.{shape_of_keep, shape_of_drop, shape_of_rename};
-ghost use Rattle.query_semantics.specs.Written.{write_keep, write_drop, write_rename, visible_names};
+ghost use Rattle.query_semantics.specs.Writings.{visible_names};
+ghost use Rattle.query_semantics.specs.Written.{write_keep, write_drop, write_rename};
 ghost use Rattle.esql_analyze.specs.Writings.{seen};
 ghost use Rattle.esql_analyze.specs.Answers.{Writes};
 ghost use Rattle.esql_analyze.specs.Names.{IsPatternError, IsPairError};

@@ -2,7 +2,7 @@ use Rattle.std.proofs.Common.{◌∷◌, ◌++◌, [], List, not, filter, ap, �
 use Rattle.std.specs.Str.{bytes_eq}
 use Rattle.std.proofs.lemmas.Fn.{filter_same}
 use Rattle.esql_plan.specs.declared.plan.OutColumn.{OutColumn}
-use Rattle.query_semantics.specs.Written.{column_at}
+use Rattle.query_semantics.specs.Writings.{column_at}
 use Rattle.esql_analyze.proofs.columns.put_visible.Goals as goal
 
 pub returns : goal.returns

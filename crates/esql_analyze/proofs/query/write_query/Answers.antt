@@ -1,10 +1,11 @@
-use Rattle.std.proofs.Common.{List, length, Result, refl, sym, subst, arith}
+use Rattle.std.proofs.Common.{◌*◌, List, length, Result, refl, sym, subst, arith}
 use Rattle.std.specs.List.{flat_map}
 use Rattle.esql_ast.specs.declared.query.Command.{Command}
 use Rattle.esql_ast.specs.Nodes.{nodes_of_command}
 use Rattle.plan_semantics.specs.Plans.{columns_of}
 use Rattle.query_semantics.specs.Shapes.{shape_of_commands, shape_in}
-use Rattle.query_semantics.specs.Written.{Writing, source_in_plan, writing_of}
+use Rattle.query_semantics.specs.Writings.{Writing}
+use Rattle.query_semantics.specs.Written.{source_in_plan, writing_of}
 use Rattle.expression_analysis.specs.declared.error.AnalyzeError.{AnalyzeError}
 use Rattle.expression_analysis.specs.Answers.{IsRefusal}
 use Rattle.esql_analyze.specs.declared.source.Begun.{Begun}
@@ -36,8 +37,8 @@ pub write_commands-requires-clause-room : goal.write_commands-requires-clause-ro
 write_commands-requires-clause-room g c =
     let query = c.args.query.now in
     let begun = c.in_ok-begun.begun in
-    let nodes = length (flat_map nodes_of_command query.commands) in
-    subst (λ (commands : List Command). HasRoom (seen begun.writing) (length (flat_map nodes_of_command commands))) (sym c.as_slice-commands.ensures)
+    let nodes = 2 * length (flat_map nodes_of_command query.commands) in
+    subst (λ (commands : List Command). HasRoom (seen begun.writing) (2 * length (flat_map nodes_of_command commands))) (sym c.as_slice-commands.ensures)
     (subst (λ (writing : Writing). HasRoom writing nodes) (sym c.in_ok-begun.ensures.begins.1.0)
     (source_room c.args.text.now c.args.catalog.now query.source nodes c.requires.catalog (omega (arith, as_many_nodes query c.requires.numbered, c.requires.few))))
 
