@@ -2,6 +2,7 @@ mod Catalogs
 mod CommandSpans
 mod EachBuilt
 mod Ends
+mod Generations
 mod Judged
 mod OneOutcome
 mod OneTables

@@ -15,6 +15,9 @@ use Rattle.esql_io.specs.Files.{Held}
 use Rattle.ndjson_load.specs.Over.{BytesOf}
 use Rattle.esql_run.specs.Bytes.{Outcome, refused}
 use Rattle.esql_run.specs.Built.{unbuilt_of}
+use Rattle.esql_run.specs.declared.generated.Generation.{Generation}
+use Rattle.esql_run.specs.Generated.{generated_by, IsGenerated}
+use Rattle.table_generator.specs.Words.{generated_query}
 use Rattle.esql_run.specs.Outcome.{IsAnswer, IsOutcome, AnswersBy, AnswersQuery, AnswersOptions, AnswersRequest, OptionsReadKnown, ReadsKnown, ReadsNoFile}
 use Rattle.esql_words.specs.declared.options.Format.{Format}
 use Rattle.esql_words.specs.declared.options.Options.{Options}
@@ -157,13 +160,23 @@ one_answer laws folder format text held outcome other known (inr (why, span, non
     let same = one_reason laws text why how span place (reason none) (reason also) in
     e ∙ ap (λ (r : Refusal). refused text r span) same.0 ∙ ap (refused text how) same.1 ∙ sym f
 
+-- a table that is made has one answer
+one_generated : (laws : Laws) (generation : Generation) (outcome other : Outcome) → IsGenerated generation outcome → IsGenerated generation other → outcome ≡ other
+one_generated laws generation outcome other (inl (query, is, a)) (inl (query2, was, b)) =
+    a ∙ ap (λ (q : Query). generated_by (unbuilt_of q) generation generated_query q) (same_query laws generated_query query query2 is was) ∙ sym b
+one_generated laws generation outcome other (inl (query, is, a)) (inr (why, span, none, f)) = absurd (no_reason laws generated_query query why span is (reason none))
+one_generated laws generation outcome other (inr (why, span, none, e)) (inl (query, was, b)) = absurd (no_reason laws generated_query query why span was (reason none))
+one_generated laws generation outcome other (inr (why, span, none, e)) (inr (how, place, also, f)) =
+    let same = one_reason laws generated_query why how span place (reason none) (reason also) in
+    e ∙ ap (λ (r : Refusal). refused generated_query r span) same.0 ∙ ap (refused generated_query how) same.1 ∙ sym f
+
 -- what is asked has one outcome
 one_request : (laws : Laws) (folder : Option (List ℕ)) (format : Format) (page_size : ℕ) (request : Request) (held : Held) (outcome other : Outcome)
     → OptionsReadKnown (Some (record { folder = folder; page_size = page_size; format = format; request = request })) held
     → AnswersRequest folder format request held outcome → AnswersRequest folder format request held other → outcome ≡ other
 one_request laws folder format page_size (AskQuery text) (Some held) outcome other known a b = one_answer laws folder format text (Some held) outcome other tt a b
 one_request laws folder format page_size (AskQuery text) None outcome other known a b = one_answer laws folder format text None outcome other known a b
-one_request laws folder format page_size (Generate seed rows) held outcome other known a b = a ∙ sym b
+one_request laws folder format page_size (Generate seed rows) held outcome other known a b = one_generated laws (record { seed = seed; rows = rows; format = format }) outcome other a b
 
 one_for_options : (laws : Laws) (options : Option Options) (held : Held) (outcome other : Outcome) → OptionsReadKnown options held → AnswersOptions options held outcome → AnswersOptions options held other → outcome ≡ other
 one_for_options laws None held outcome other known a b = a ∙ sym b

@@ -3,6 +3,7 @@ pub mod Built
 pub mod Bytes
 pub mod Codes
 pub mod Made
+pub mod Generated
 pub mod Outcome
 pub mod Rooms
 pub mod Shown

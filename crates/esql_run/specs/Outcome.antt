@@ -16,6 +16,7 @@ use Rattle.table_files.specs.Uses.{table_names}
 use Rattle.esql_run.specs.Bytes.{Outcome, one_line, refused}
 use Rattle.esql_run.specs.Built.{unbuilt_of}
 use Rattle.esql_run.specs.Tables.{AnswersTables, AskedByTables}
+use Rattle.esql_run.specs.Generated.{IsGenerated}
 use Rattle.esql_run.specs.declared.status.Status.TheVariants.{Usage}
 
 -- the first command that is not built is refused where it stands; where each is built the query is answered over its tables
@@ -35,10 +36,10 @@ IsAnswer folder format text held outcome =
 abbrev pub wrong_words : Outcome
 wrong_words = one_line Usage usage
 
--- A query is answered over files of the folder, in the format. `--generate` is a word that comes: so far the usage is shown.
+-- A query is answered over files of the folder, in the format; with `--generate` the program's own over a table that is made.
 abbrev pub AnswersRequest : Option (List ℕ) → Format → Request → Held → Outcome → Type 0
 AnswersRequest folder format (AskQuery text) held outcome = IsAnswer folder format text held outcome
-AnswersRequest folder format (Generate seed rows) held outcome = outcome ≡ wrong_words
+AnswersRequest folder format (Generate seed rows) held outcome = IsGenerated (record { seed = seed; rows = rows; format = format }) outcome
 
 -- the usage is shown where words ask for nothing; how many rows a page has changes nothing
 abbrev pub AnswersOptions : Option Options → Held → Outcome → Type 0

@@ -17,6 +17,7 @@ use Rattle.esql_answer.specs.Queries.{IsQuery}
 use Rattle.answer_text.specs.declared.refusals.Refusal.TheVariants as refusal
 use Rattle.answer_text.specs.Refusals.{refusal_line}
 use Rattle.esql_run.specs.Built.{unbuilt_of}
+use Rattle.esql_run.specs.Generated.{IsRoomOfGenerated}
 use Rattle.esql_words.specs.declared.options.Options.{Options}
 use Rattle.esql_words.specs.declared.options.Request.{Request}
 use Rattle.esql_words.specs.declared.options.Request.TheVariants.{Query as AskQuery, Generate}
@@ -40,7 +41,7 @@ IsRoomIn count last folder text held old new line = (query : Query) × IsQuery t
 
 abbrev pub IsRoomForRequest : {Maker : Type 0} → (Maker → ℕ) → (Maker → List ℕ) → Option (List ℕ) → Request → Held → Maker → Maker → List ℕ → Type 0
 IsRoomForRequest count last folder (AskQuery text) held old new line = IsRoomIn count last folder text held old new line
-IsRoomForRequest count last folder (Generate seed rows) held old new line = ⊥
+IsRoomForRequest count last folder (Generate seed rows) held old new line = IsRoomOfGenerated count last old new line
 
 abbrev pub IsRoomForOptions : {Maker : Type 0} → (Maker → ℕ) → (Maker → List ℕ) → Option Options → Held → Maker → Maker → List ℕ → Type 0
 IsRoomForOptions count last None held old new line = ⊥

@@ -10,6 +10,7 @@ ghost use Rattle.esql_run.specs.Rooms.{IsRoomForOptions, IsRoomIn, IsRoomLine, I
 ghost use Rattle.esql_run.specs.Stopped.{CalledToAnswer, MadeToAnswer};
 
 use crate::Status;
+use crate::generated::{Generation, answer_generated};
 use crate::rendered::{Rendered, Unanswered, refuse};
 use crate::tables::answer_tables;
 use crate::unbuilt::first_unbuilt;
@@ -50,7 +51,7 @@ fn wrong_words(alloc: Global) -> Result<Rendered, AllocError>
     })
 }
 
-/// The answer to what is asked. A table that is to be made gets the usage so far.
+/// The answer to what is asked.
 fn answer_options<F: Files, M: Maker>(
     alloc: Global,
     options: &Options,
@@ -64,7 +65,14 @@ fn answer_options<F: Files, M: Maker>(
 {
     match &options.request {
         Request::Query { text } => answer_text(alloc, options, text.as_str(), files, maker),
-        Request::Generate { .. } => Ok(wrong_words(alloc)?),
+        Request::Generate { seed, rows } => {
+            let generation = Generation {
+                seed: *seed,
+                rows: *rows,
+                format: options.format,
+            };
+            answer_generated(alloc, generation, maker)
+        }
     }
 }
 

@@ -1,9 +1,10 @@
 //! The top call: the words of the command line go in, and the bytes of an answer come out.
 //!
-//! Read its specs in this order: `Bytes`, `Built`, `Shown`, `Tables`, `Outcome`, `Rooms`, `Answers`.
+//! Read its specs in this order: `Bytes`, `Built`, `Shown`, `Tables`, `Generated`, `Outcome`, `Rooms`, `Answers`.
 #![tactic(auto)]
 
 mod answer;
+mod generated;
 mod laws;
 mod rendered;
 mod status;

@@ -120,7 +120,11 @@ fn answer_gathered<F: Files, M: Maker>(
     }
 }
 
-fn unprepared(alloc: Global, text: &str, error: AnalyzeError) -> Result<Rendered, Unanswered>
+pub(crate) fn unprepared(
+    alloc: Global,
+    text: &str,
+    error: AnalyzeError,
+) -> Result<Rendered, Unanswered>
     requires { ErrorFits text.now error }
     ensures unprepared { IsUnprepared text.now error result }
     ensures status { IfOk result (λ answer. IsTold answer.status) }
@@ -186,7 +190,7 @@ fn answer_prepared<F: Files>(
 }
 
 /// The table in a format, and the warnings, of a query over its tables.
-fn show(
+pub(crate) fn show(
     alloc: Global,
     format: Format,
     text: &str,

@@ -33,7 +33,7 @@ fn is_built_kind(kind: &CommandKind) -> bool
         CommandKind::Sort { .. } => true,
         CommandKind::Limit { .. } => true,
         CommandKind::Expand { .. } => true,
-        CommandKind::Stats { .. } => false,
+        CommandKind::Stats { .. } => true,
         CommandKind::Dissect { .. } => false,
         CommandKind::Grok { .. } => false,
         CommandKind::Enrich { .. } => false,
