@@ -132,7 +132,7 @@ const CASES: [Case; 13] = [
         err: "line 1:20: no columns are left\n",
     },
     Case {
-        query: "FROM u | STATS a",
+        query: "FROM u | DISSECT a \"%{b}\"",
         status: Status::Refused,
         out: "",
         err: "line 1:10: command not built\n",
@@ -204,7 +204,10 @@ struct Words {
 const JSON: &str =
     "{\"columns\":[{\"name\":\"a\",\"type\":\"null\"},{\"name\":\"b\",\"type\":\"integer\"}],\"values\":[[null,[1,2]]]}\n";
 
-const WORDS: [Words; 3] = [
+const GENERATED: &str =
+    "n | total | top   | dept\n--+-------+-------+-----\n1 | 51807 | 51807 | d2\ngenerated 1 rows from 0\n";
+
+const WORDS: [Words; 4] = [
     Words {
         words: &["--format", "json", "ROW a = null, b = [1, 2]"],
         out: JSON,
@@ -217,10 +220,14 @@ const WORDS: [Words; 3] = [
         words: &["--page-size", "1", "--data=d", "FROM t"],
         out: "a.b\n---\n7\n",
     },
+    Words {
+        words: &["--generate", "0,1"],
+        out: GENERATED,
+    },
 ];
 
 #[test]
-fn words_name_the_folder_and_the_format(rt: HostRuntime) -> Result<(), Fail> {
+fn words_say_what_is_asked(rt: HostRuntime) -> Result<(), Fail> {
     for case in &WORDS {
         let (status, out, err) = run_over(rt.alloc(), case.words, ROWS, NONE)?;
         assert_eq!(rt; status, Status::Done);
@@ -232,7 +239,7 @@ fn words_name_the_folder_and_the_format(rt: HostRuntime) -> Result<(), Fail> {
 
 const WRONG: [&[&str]; 4] = [
     &[],
-    &["--generate", "7,3"],
+    &["--explain", "ROW a = 1"],
     &["--format", "xml", "FROM t"],
     &["--help"],
 ];
