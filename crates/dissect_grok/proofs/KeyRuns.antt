@@ -10,7 +10,7 @@ use Rattle.dissect_grok.specs.Texts.{cut_at}
 use Rattle.dissect_grok.proofs.Cutting.{cut_whole}
 
 -- what stands behind a delimiter is shorter than the text
-behind_shorter : (delimiter text : List ℕ) (parts : List ℕ × List ℕ) → cut_at delimiter text ≡ Some parts → length parts.1 + length delimiter ≤ length text
+pub behind_shorter : (delimiter text : List ℕ) (parts : List ℕ × List ℕ) → cut_at delimiter text ≡ Some parts → length parts.1 + length delimiter ≤ length text
 behind_shorter delimiter text parts e =
     let long : length text ≡ length parts.0 + (length delimiter + length parts.1) =
     ap length (cut_whole delimiter text parts e) ∙ length-append parts.0 (delimiter ++ parts.1) ∙ ap (λ n. length parts.0 + n) (length-append delimiter parts.1) in

@@ -5,3 +5,7 @@ mod Numbers
 mod Readings
 mod Steps
 mod Taken
+mod Expansions
+mod PlaceSteps
+mod Indexes
+mod Takes

@@ -5,3 +5,8 @@ pub mod Joined
 pub mod Dissects
 pub mod Cuts
 pub mod Laws
+pub mod Library
+pub mod Groups
+pub mod Groks
+pub mod GrokParts
+pub mod GrokHeld

@@ -20,3 +20,16 @@ impl From<AllocError> for DissectError {
         DissectError::Memory(error)
     }
 }
+
+/// Why a pattern of GROK was not read.
+#[derive(Clone, Copy, Debug, Drop, Error)]
+pub enum GrokError {
+    #[error("the pattern is bad")]
+    Bad,
+    #[error("the pattern written out is not readable")]
+    NotRead,
+    #[error("the pattern written out is too large to build")]
+    TooLarge,
+    #[error(transparent)]
+    Memory(AllocError),
+}
