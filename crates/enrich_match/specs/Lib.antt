@@ -1,0 +1,5 @@
+pub mod Hashed
+pub mod Lookups
+pub mod Matches
+pub mod Places
+pub mod Held
