@@ -1,10 +1,9 @@
 -- The keys of a row differ.
 use Rattle.std.proofs.Common.{◌≡◌, Bool, true, false, ◌&&◌, List, [], ◌∷◌, ◌++◌, map, refl, sym, ap, ◌∙◌, true≢false}
 use Rattle.std.specs.List.{flat_map, list_all, AllByRecursion, IsDistinct}
-use Rattle.function_rules.specs.Lists.{first_of}
 use Rattle.function_rules.proofs.ListsDistinct.{distinct_once}
 use Rattle.esql_types.specs.declared.value.Value.{Value}
-use Rattle.plan_semantics.specs.Groups.{Key, choices, distinct_values, key_cells, keys_of_cells, same_key, same_list, same_value}
+use Rattle.plan_semantics.specs.Groups.{choices, distinct_values, key_cells, keys_of_cells, same_key, same_list, same_value}
 use Rattle.stats_groups.specs.Maps.{is_single}
 
 module _ {Item : Type 0} (P : Item → Type 0) where
@@ -90,8 +89,8 @@ each_distinct (cell ∷ cells) = (key_cells_distinct cell, each_distinct cells)
 pub keys_distinct : (cells : List (List Value)) → IsDistinct same_key (keys_of_cells cells)
 keys_distinct cells = choices_distinct (same_list same_value) (map key_cells cells) (each_distinct cells)
 
--- Cells of one value or none have one key, their first values.
-single_cell : (cell : List Value) → is_single cell ≡ true → key_cells cell ≡ first_of cell ∷ []
+-- Cells of one value or none are a key, their only one.
+single_cell : (cell : List Value) → is_single cell ≡ true → key_cells cell ≡ cell ∷ []
 single_cell [] single = refl
 single_cell (value ∷ []) single = refl
 single_cell (value ∷ second ∷ more) single = absurd (true≢false (sym single))
@@ -100,9 +99,9 @@ both_so : (first second : Bool) → (first && second) ≡ true → (first ≡ tr
 both_so true second so = (refl, so)
 both_so false second so = absurd (true≢false (sym so))
 
-pub single_key : (cells : List (List Value)) → list_all is_single cells ≡ true → keys_of_cells cells ≡ map first_of cells ∷ []
+pub single_key : (cells : List (List Value)) → list_all is_single cells ≡ true → keys_of_cells cells ≡ cells ∷ []
 single_key [] single = refl
 single_key (cell ∷ cells) single =
     let both = both_so (is_single cell) (list_all is_single cells) single in
     ap (λ items. choices (items ∷ map key_cells cells)) (single_cell cell both.0)
-    ∙ ap (λ keys. map (λ more. first_of cell ∷ more) keys ++ []) (single_key cells both.1)
+    ∙ ap (λ keys. map (λ more. cell ∷ more) keys ++ []) (single_key cells both.1)

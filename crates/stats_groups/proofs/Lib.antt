@@ -4,7 +4,7 @@ pub mod RunningSteps
 pub mod DistinctKeys
 pub mod GroupSteps
 pub mod MapSteps
-pub mod KeySeen
+pub mod SameTurns
 pub mod RunningTurn
 pub mod Walks
 pub mod Seen

@@ -1,5 +1,5 @@
 -- What the fields of `Groups` hold, as it is seen.
-use Rattle.std.proofs.Common.{◌≡◌, Bool, true, false, List, [], ◌∷◌, ◌++◌, map, length, Option, Some, None, IsSome, refl, sym, ap, subst, ◌∙◌}
+use Rattle.std.proofs.Common.{◌≡◌, Bool, true, false, List, [], ◌∷◌, ◌++◌, map, length, Some, None, IsSome, refl, sym, ap, subst, ◌∙◌}
 use Rattle.std.specs.Prelude.{if◌then◌else◌}
 use Rattle.std.specs.List.{flat_map}
 use Rattle.std.specs.Option.{option_map}
@@ -7,10 +7,11 @@ use Rattle.esql_types.specs.declared.cause.Failure.{Failure}
 use Rattle.esql_types.specs.declared.value.Value.{Value}
 use Rattle.plan_semantics.specs.Groups.{Entry, keys_of_cells, rows_of_groups, failures_of_groups}
 use Rattle.stats_groups.specs.declared.groups.Groups.TheInside.{Inside}
-use Rattle.stats_groups.specs.Entries.{entry_of}
+use Rattle.stats_groups.specs.Entries.{cells_of, entry_of_row, inputs_of}
 use Rattle.stats_groups.specs.Grouped.{Grouped, with_entry, rows_grouped, failures_grouped}
 use Rattle.stats_groups.specs.Held.{grouped_of, HoldsGroups}
 use Rattle.stats_groups.specs.Maps.{Group, failures_of_group, groups_of, row_of_group, with_row_at}
+use Rattle.stats_groups.proofs.SameTurns.{cells_long}
 use Rattle.stats_groups.proofs.GroupSteps.{groups_more, rows_in_the_end, failures_in_the_end}
 
 module _ (inside : Inside) (seen : Grouped) (view : grouped_of inside ≡ seen) where
@@ -38,23 +39,24 @@ module _ (inside : Inside) (seen : Grouped) (view : grouped_of inside ≡ seen) 
         ∙ ap (with_entry entry) view
 
     module _ (holds : HoldsGroups inside) where
-      pub held_more : (keys inputs : List (List Value)) (groups : List Group) (list : List Entry) → length keys ≡ seen.columns
-          → groups ≡ with_row_at inside.aggregates (keys_of_cells keys) inputs inside.groups.entries → list ≡ inside.entries.list ++ entry_of keys inputs ∷ []
-          → groups ≡ groups_of inside.columns inside.aggregates list
-      held_more keys inputs groups list long made listed =
+      pub held_more : (row : List (List Value)) (groups : List Group) (list : List Entry)
+          → groups ≡ with_row_at inside.aggregates (keys_of_cells (cells_of inside.columns row)) (inputs_of inside.aggregates row) inside.groups.entries
+          → list ≡ inside.entries.list ++ entry_of_row inside.columns inside.aggregates row ∷ []
+          → groups ≡ groups_of (length inside.columns) inside.aggregates list
+      held_more row groups list made listed =
           made
-          ∙ ap (with_row_at inside.aggregates (keys_of_cells keys) inputs) (holds whole)
-          ∙ groups_more inside.aggregates inside.columns inside.entries.list (entry_of keys inputs) (long ∙ sym (ap (λ (one : Grouped). one.columns) view))
-          ∙ ap (groups_of inside.columns inside.aggregates) (sym listed)
+          ∙ ap (with_row_at inside.aggregates (keys_of_cells (cells_of inside.columns row)) (inputs_of inside.aggregates row)) (holds whole)
+          ∙ groups_more inside.aggregates (length inside.columns) inside.entries.list (entry_of_row inside.columns inside.aggregates row) (cells_long inside.columns row)
+          ∙ ap (groups_of (length inside.columns) inside.aggregates) (sym listed)
 
       pub seen_rows : Some (map row_of_group inside.groups.entries) ≡ rows_grouped seen
       seen_rows =
-          ap Some (ap (map row_of_group) (holds whole) ∙ rows_in_the_end inside.aggregates inside.columns inside.entries.list)
-          ∙ sym (ap (λ (is : Bool). option_map (rows_of_groups inside.columns inside.aggregates) (if is then None else Some inside.entries.list)) whole)
+          ap Some (ap (map row_of_group) (holds whole) ∙ rows_in_the_end inside.aggregates (length inside.columns) inside.entries.list)
+          ∙ sym (ap (λ (is : Bool). option_map (rows_of_groups (length inside.columns) inside.aggregates) (if is then None else Some inside.entries.list)) whole)
           ∙ ap rows_grouped view
 
       pub seen_failures : (old : List Failure) → Some (old ++ flat_map failures_of_group inside.groups.entries) ≡ option_map (λ new. old ++ new) (failures_grouped seen)
       seen_failures old =
-          ap (λ (new : List Failure). Some (old ++ new)) (ap (flat_map failures_of_group) (holds whole) ∙ failures_in_the_end inside.aggregates inside.columns inside.entries.list)
-          ∙ sym (ap (λ (is : Bool). option_map (λ new. old ++ new) (option_map (failures_of_groups inside.columns inside.aggregates) (if is then None else Some inside.entries.list))) whole)
+          ap (λ (new : List Failure). Some (old ++ new)) (ap (flat_map failures_of_group) (holds whole) ∙ failures_in_the_end inside.aggregates (length inside.columns) inside.entries.list)
+          ∙ sym (ap (λ (is : Bool). option_map (λ new. old ++ new) (option_map (failures_of_groups (length inside.columns) inside.aggregates) (if is then None else Some inside.entries.list))) whole)
           ∙ ap (λ (one : Grouped). option_map (λ new. old ++ new) (failures_grouped one)) view

@@ -11,12 +11,11 @@ use Rattle.function_rules.specs.Lists.{least_from, least_of, greatest_from, grea
 use Rattle.number_rules.specs.Sums.{plus_128}
 use Rattle.esql_plan.specs.declared.function.AggFunction.{AggFunction}
 use Rattle.esql_plan.specs.declared.function.AggFunction.TheVariants as function
-use Rattle.esql_plan.specs.Rules.{Given, given, given_one, number_of}
+use Rattle.esql_plan.specs.Rules.{given, given_one, number_of}
 use Rattle.indexmap.specs.IndexSet.{insert_key}
 use Rattle.plain_functions.specs.ValueOrder.{same_equivalence}
 use Rattle.plan_semantics.specs.Groups.{aggregate_of, count_given, distinct_values, same_value}
 use Rattle.stats_groups.specs.declared.state.State.TheVariants.{Rows, Count, CountDistinct, Summed, Least, Greatest, Values}
-use Rattle.stats_groups.specs.declared.sum.LongSum.{LongSum}
 use Rattle.stats_groups.specs.States.{state_before, state_after, state_of, given_of_state, given_of_sum, with_value, nothing_summed, best_after}
 use Rattle.stats_groups.proofs.DistinctFolds.{distinct_by_fold}
 

@@ -1,5 +1,5 @@
 -- What the fields of `Groups` hold.
-use Rattle.std.specs.Prelude.{◌≡◌, false, Some, None, if◌then◌else◌}
+use Rattle.std.specs.Prelude.{◌≡◌, false, Some, None, length, if◌then◌else◌}
 use Rattle.stats_groups.specs.Grouped.{Grouped}
 use Rattle.stats_groups.specs.Maps.{groups_of}
 use Rattle.stats_groups.specs.declared.groups.Groups.TheInside.{Inside}
@@ -10,4 +10,4 @@ grouped_of inside =
 
 -- unless memory was refused, the map holds the groups of the rows that were added
 abbrev pub HoldsGroups : Inside → Type 0
-HoldsGroups inside = inside.is_broken ≡ false → inside.groups.entries ≡ groups_of inside.columns inside.aggregates inside.entries.list
+HoldsGroups inside = inside.is_broken ≡ false → inside.groups.entries ≡ groups_of (length inside.columns) inside.aggregates inside.entries.list

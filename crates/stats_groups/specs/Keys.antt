@@ -1,12 +1,12 @@
 -- When keys are the same, and what of them is hashed.
-use Rattle.std.specs.Prelude.{◌≡◌, Bool, true, false, ◌&&◌, List, [], ◌∷◌, ◌++◌, map, length, Option, Some, None, refl}
+use Rattle.std.specs.Prelude.{◌≡◌, Bool, ◌&&◌, List, [], ◌∷◌, refl}
 use Rattle.std.specs.Bool.{Decides}
 use Rattle.std.specs.Cmp.{IsEquivalence, decided}
 use Rattle.std.specs.Cmp.Lexicographic.{pointwise, pointwise_decides}
 use Rattle.std.specs.Hash as fed
 use Rattle.std.specs.Hash.{HashWrites}
-use Rattle.std.specs.Option.{option_to_list, option_eq}
-use Rattle.std.proofs.Common.{ap, sym, ◌∙◌, subst}
+use Rattle.std.specs.List.{flat_map}
+use Rattle.std.proofs.Common.{ap, subst}
 use Rattle.esql_types.specs.declared.value.Value.{Value}
 use Rattle.esql_types.specs.declared.value.Value.TheVariants.{Int, Long, Bool as Boolean, Text as Keyword}
 use Rattle.plan_semantics.specs.Groups.{Key, same_key, same_list, same_value}
@@ -18,16 +18,13 @@ value_hashed (Long number) = fed.i64 number
 value_hashed (Boolean truth) = fed.bool truth
 value_hashed (Keyword text) = fed.str text
 
--- a key's cell, which has one value or none
-abbrev pub cell_of_value : Option Value → List Value
-cell_of_value value = option_to_list value
-
+-- of a key's cell, which has one value or none
 abbrev pub cell_hashed : List Value → HashWrites
-cell_hashed [] = fed.option value_hashed None
-cell_hashed (value ∷ values) = fed.option value_hashed (Some value)
+cell_hashed [] = fed.u8 0
+cell_hashed (value ∷ values) = value_hashed value
 
 abbrev pub key_hashed : Key → HashWrites
-key_hashed key = fed.slice cell_hashed key
+key_hashed key = flat_map cell_hashed key
 
 pub list_same : {Item : Type 0} (same : Item → Item → Bool) (this that : List Item) → pointwise same this that ≡ same_list same this that
 list_same same [] [] = refl

@@ -1,5 +1,6 @@
 pub mod Entries
 pub mod Keys
+pub mod KeyCells
 pub mod States
 pub mod Maps
 pub mod Grouped

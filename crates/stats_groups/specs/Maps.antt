@@ -1,7 +1,6 @@
 -- Groups as a map keeps them: each key with the running aggregates of its rows.
-use Rattle.std.specs.Prelude.{ℕ, zero, suc, ◌+◌, length, Bool, true, false, ◌&&◌, List, [], ◌∷◌, ◌++◌, map, fold, Option, if◌then◌else◌}
-use Rattle.std.specs.List.{flat_map, list_all}
-use Rattle.std.specs.Option.{option_map}
+use Rattle.std.specs.Prelude.{ℕ, zero, suc, ◌+◌, length, Bool, true, false, List, [], ◌∷◌, ◌++◌, map, fold, if◌then◌else◌}
+use Rattle.std.specs.List.{flat_map}
 use Rattle.esql_types.specs.declared.cause.Failure.{Failure}
 use Rattle.esql_types.specs.declared.value.Value.{Value}
 use Rattle.esql_plan.specs.declared.step.Aggregate.{Aggregate}

@@ -1,5 +1,5 @@
 -- What is kept of the values of a group for an aggregate, and what it gives in the end.
-use Rattle.std.specs.Prelude.{ℕ, ◌+◌, min, Bool, true, false, ◌||◌, List, [], ◌∷◌, map, length, fold, Option, Some, None, if◌then◌else◌, pos, slice_index_or}
+use Rattle.std.specs.Prelude.{ℕ, ◌+◌, min, Bool, true, false, List, [], ◌∷◌, map, length, fold, Option, Some, None, if◌then◌else◌, pos, slice_index_or}
 use Rattle.std.specs.Option.{option_to_list}
 use Rattle.std.specs.Ordering.{is_lt, is_gt}
 use Rattle.std.specs.declared.cmp.Ordering.{Ordering}

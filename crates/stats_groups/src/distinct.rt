@@ -7,10 +7,10 @@ use indexmap::IndexSet;
 use std::alloc::{AllocError, Global};
 use std::marker::Model;
 
-/// Values that differ, by first occurrence. Contracts see the list of them.
+/// Values that differ, by first occurrence, on the heap, so that other states stay small. Contracts see the list of them.
 #[derive(Drop)]
 pub(crate) struct DistinctValues {
-    values: IndexSet<KeyValue>,
+    values: Box<IndexSet<KeyValue>>,
 }
 
 impl Model for DistinctValues {
@@ -19,16 +19,16 @@ impl Model for DistinctValues {
 
     ghost Value = { List PlainValue };
 
-    ghost view = { λ distinct. distinct.values.keys };
+    ghost view = { λ distinct. distinct.values.value.keys };
 }
 
 impl DistinctValues {
-    pub(crate) fn new(alloc: Global) -> DistinctValues
-        ensures { result ≡ [] }
+    pub(crate) fn new(alloc: Global) -> Result<DistinctValues, AllocError>
+        ensures { IfOk result (λ values. values ≡ []) }
     {
-        DistinctValues {
-            values: IndexSet::new(alloc),
-        }
+        Ok(DistinctValues {
+            values: Box::new(alloc, IndexSet::new(alloc))?,
+        })
     }
 
     /// Adds those of some values that are not there yet.
@@ -52,7 +52,7 @@ impl DistinctValues {
     {
         let DistinctValues { values } = self;
         let mut cell = Cell::null(alloc);
-        for value in values {
+        for value in Box::into_inner(values) {
             cell.push(value.into_value())?;
         }
         Ok(cell)

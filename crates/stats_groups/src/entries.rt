@@ -1,8 +1,9 @@
 ghost use Rattle.std.specs.Prelude.{◌≡◌, [], ◌∷◌, ◌++◌, List};
 ghost use Rattle.plan_semantics.specs.Groups.{Entry};
-ghost use Rattle.stats_groups.specs.Entries.{entry_of, entries_code};
+ghost use Rattle.stats_groups.specs.Entries.{entry_of_row, entries_code};
 ghost use base.Fml.{ftrue};
 
+use esql_plan::{Aggregate, GroupColumn};
 use esql_types::{Cell, Seq};
 use std::marker::Model;
 
@@ -12,11 +13,12 @@ pub(crate) struct Entries {
     ghost list: { List Entry } by { entries_code },
 }
 
-/// A row that is added.
+/// A row that is added, with the columns and the aggregates that say what groups look at in it.
 #[derive(Clone, Copy)]
 pub(crate) struct AddedRow<'a> {
-    pub(crate) keys: &'a Seq<Cell>,
-    pub(crate) inputs: &'a Seq<Cell>,
+    pub(crate) columns: &'a Seq<GroupColumn>,
+    pub(crate) aggregates: &'a Seq<Aggregate>,
+    pub(crate) row: &'a Seq<Cell>,
 }
 
 impl Model for Entries {
@@ -33,7 +35,7 @@ impl Entries {
 
     /// One more row behind them.
     pub(crate) fn then(&self, _row: &AddedRow<'_>) -> Entries
-        ensures { result.list ≡ self.now.list ++ entry_of _row.now.keys.now _row.now.inputs.now ∷ [] }
+        ensures { result.list ≡ self.now.list ++ entry_of_row _row.now.columns.now _row.now.aggregates.now _row.now.row.now ∷ [] }
     {
         Entries {}
     }

@@ -1,90 +1,94 @@
 ghost use Rattle.std.specs.Prelude.{◌≡◌, [], ◌∷◌, ◌++◌, IfOk, OnOk};
-ghost use Rattle.stats_groups.specs.Keys.{cell_of_value};
 
-use crate::key_value::KeyValue;
+use crate::hashes::hash_cells;
+use crate::same::same_cells;
 use esql_types::{Cell, Seq};
-use smallvec::SmallVec;
 use std::alloc::{AllocError, Global};
 use std::hash::{Hash, Hasher};
 use std::marker::Model;
+use std::slice::from_ref;
 
-/// The key of a group: a value or null for each column that rows are grouped by. Contracts see it as its cells.
+/// Cells, of which one takes no memory.
+#[derive(Drop)]
+enum KeyCells {
+    One(Cell),
+    Several(Vec<Cell>),
+}
+
+/// The key of a group: a cell of one value or none for each column that rows are grouped by. Contracts see it as its cells.
 #[derive(Drop)]
 pub(crate) struct GroupKey {
-    values: SmallVec<Option<KeyValue>, 1>,
+    cells: KeyCells,
 }
 
 impl Model for GroupKey {
-    ghost use Rattle.std.specs.Prelude.{List, map};
+    ghost use Rattle.std.specs.Prelude.{List};
     ghost use Rattle.esql_types.specs.declared.value.Value.{Value as PlainValue};
-    ghost use Rattle.stats_groups.specs.Keys.{cell_of_value};
+    ghost use Rattle.stats_groups.specs.KeyCells.{cells_held};
 
     ghost Value = { List (List PlainValue) };
 
-    ghost view = { λ key. map cell_of_value key.values.items };
+    ghost view = { λ key. cells_held key.cells };
 }
 
 impl GroupKey {
-    /// The key of no columns, which takes no memory.
-    pub(crate) fn empty(alloc: Global) -> GroupKey
-        ensures { result ≡ [] }
+    /// The key of one cell, which takes no memory.
+    pub(crate) fn one(cell: Cell) -> GroupKey
+        ensures { result ≡ cell ∷ [] }
     {
         GroupKey {
-            values: SmallVec::new(alloc),
+            cells: KeyCells::One(cell),
         }
     }
 
-    pub(crate) fn push(&mut self, value: Option<KeyValue>) -> Result<(), AllocError>
-        ensures { OnOk result (self.new ≡ self.old ++ cell_of_value value ∷ []) }
+    pub(crate) fn of(cells: Vec<Cell>) -> GroupKey
+        ensures { result ≡ cells.items }
     {
-        self.values.push(value)?;
-        Ok(())
+        GroupKey {
+            cells: KeyCells::Several(cells),
+        }
+    }
+
+    pub(crate) fn as_slice(&self) -> &[Cell]
+        ensures { result.now ≡ self.now }
+    {
+        match &self.cells {
+            KeyCells::One(cell) => from_ref(cell),
+            KeyCells::Several(cells) => cells.as_slice(),
+        }
     }
 
     /// Adds the cells of the key to a row.
-    pub(crate) fn push_cells(self, alloc: Global, row: &mut Seq<Cell>) -> Result<(), AllocError>
+    pub(crate) fn push_cells(self, row: &mut Seq<Cell>) -> Result<(), AllocError>
         ensures { OnOk result (row.new ≡ row.old ++ self) }
     {
-        let GroupKey { values } = self;
-        for value in values {
-            row.push(cell_of(alloc, value))?;
+        let GroupKey { cells } = self;
+        match cells {
+            KeyCells::One(cell) => row.push(cell),
+            KeyCells::Several(cells) => push_all(cells, row),
         }
-        Ok(())
     }
 
-    /// A copy of the key with another value before it.
-    pub(crate) fn behind(
-        &self,
-        alloc: Global,
-        first: Option<KeyValue>,
-    ) -> Result<GroupKey, AllocError>
-        ensures { IfOk result (λ key. key ≡ cell_of_value first ∷ self.now) }
+    /// A copy of the key with another cell before it.
+    pub(crate) fn behind(&self, alloc: Global, first: Cell) -> Result<GroupKey, AllocError>
+        ensures { IfOk result (λ key. key ≡ first ∷ self.now) }
     {
-        let mut values = SmallVec::new(alloc);
-        values.push(first)?;
-        for value in self.values.as_slice() {
-            values.push(copy_of(value)?)?;
+        let mut cells = Vec::new(alloc);
+        cells.push(first)?;
+        for cell in self.as_slice() {
+            cells.push(cell.copy()?)?;
         }
-        Ok(GroupKey { values })
+        Ok(GroupKey::of(cells))
     }
 }
 
-fn cell_of(alloc: Global, value: Option<KeyValue>) -> Cell
-    ensures { result ≡ cell_of_value value }
+fn push_all(cells: Vec<Cell>, row: &mut Seq<Cell>) -> Result<(), AllocError>
+    ensures { OnOk result (row.new ≡ row.old ++ cells.items) }
 {
-    match value {
-        Some(value) => Cell::one(alloc, value.into_value()),
-        None => Cell::null(alloc),
+    for cell in cells {
+        row.push(cell)?;
     }
-}
-
-fn copy_of(value: &Option<KeyValue>) -> Result<Option<KeyValue>, AllocError>
-    ensures { IfOk result (λ copy. copy ≡ value.now) }
-{
-    match value {
-        Some(value) => Ok(Some(value.copy()?)),
-        None => Ok(None),
-    }
+    Ok(())
 }
 
 impl PartialEq for GroupKey {
@@ -97,7 +101,7 @@ impl PartialEq for GroupKey {
     ghost laws = { partial_equiv_from_equiv key_equivalence };
 
     fn eq(&self, other: &GroupKey) -> bool {
-        self.values == other.values
+        same_cells(self.as_slice(), other.as_slice())
     }
 }
 
@@ -116,6 +120,6 @@ impl Hash for GroupKey {
     ghost respects_eq = { (same_Alike key_hashed key_decides).fed };
 
     fn hash<H: Hasher>(&self, state: &mut H) {
-        self.values.hash(state);
+        hash_cells(self.as_slice(), state);
     }
 }

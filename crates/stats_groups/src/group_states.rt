@@ -1,10 +1,13 @@
-ghost use Rattle.std.specs.Prelude.{◌≡◌, [], ◌++◌, map, IfOk, OnOk, slice_index_or};
+ghost use Rattle.std.specs.Prelude.{◌≡◌, [], ◌++◌, length, map, IfOk, OnOk, slice_index_or};
 ghost use Rattle.std.specs.List.{flat_map};
+ghost use Rattle.plan_semantics.specs.Stats.{input_cell};
+ghost use Rattle.stats_groups.specs.Entries.{inputs_of, numbered};
 ghost use Rattle.stats_groups.specs.States.{running_before, running_after, cell_of_running, failures_of_running};
 
+use crate::row_key::values_at;
 use crate::state::{Running, State};
 use esql_plan::Aggregate;
-use esql_types::{Cell, Failure, Seq, Value};
+use esql_types::{Cell, ColId, Failure, Seq, Value};
 use std::alloc::{AllocError, Global};
 use std::marker::Model;
 
@@ -32,20 +35,28 @@ impl GroupStates {
         for aggregate in aggregates {
             states.push(Running {
                 node: aggregate.node,
-                state: State::new(alloc, aggregate.function),
+                state: State::new(alloc, aggregate.function)?,
             })?;
         }
         Ok(GroupStates { states })
     }
 
-    /// Takes one more row, by the cells of the aggregates' inputs.
-    pub(crate) fn add(&mut self, inputs: &[Cell]) -> Result<(), AllocError>
-        ensures { OnOk result (self.new ≡ running_after 0 self.old inputs.now) }
+    /// Takes one more row, by its cells of the aggregates' inputs.
+    pub(crate) fn add(&mut self, aggregates: &[Aggregate], row: &[Cell]) -> Result<(), AllocError>
+        ensures { OnOk result (self.new ≡ running_after 0 self.old (inputs_of aggregates.now row.now)) }
     {
         for place in 0..self.states.len() {
-            self.states[place].state.add(values_at(inputs, place))?;
+            self.states[place]
+                .state
+                .add(input_at(aggregates, place, row))?;
         }
         Ok(())
+    }
+
+    pub(crate) fn len(&self) -> usize
+        ensures { result ≡ length self.now }
+    {
+        self.states.len()
     }
 
     /// Adds the aggregates' cells to a row, and their failures to others.
@@ -66,12 +77,22 @@ impl GroupStates {
     }
 }
 
-/// The values of the input at a place.
-fn values_at(inputs: &[Cell], place: usize) -> &[Value]
-    ensures { result.now ≡ slice_index_or inputs.now place [] }
+/// The values of a row for the aggregate at a place.
+fn input_at<'a>(aggregates: &[Aggregate], place: usize, row: &'a [Cell]) -> &'a [Value]
+    ensures { result.now ≡ slice_index_or (inputs_of aggregates.now row.now) place [] }
 {
-    match inputs.get(place) {
-        Some(cell) => cell.as_slice(),
+    match aggregates.get(place) {
+        Some(aggregate) => input_values(aggregate.input, row),
+        None => &[],
+    }
+}
+
+/// The values of a row at a column, none where there is no column.
+fn input_values(input: Option<ColId>, row: &[Cell]) -> &[Value]
+    ensures { result.now ≡ input_cell (numbered row.now) input }
+{
+    match input {
+        Some(id) => values_at(row, id),
         None => &[],
     }
 }

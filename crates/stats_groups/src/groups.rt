@@ -2,7 +2,7 @@ use crate::entries::{AddedRow, Entries};
 use crate::group_key::GroupKey;
 use crate::group_states::GroupStates;
 use crate::map::{add_row, groups_before, rows_of_groups};
-use esql_plan::Aggregate;
+use esql_plan::{Aggregate, GroupColumn};
 use esql_types::{Cell, Failure, Seq};
 use indexmap::IndexMap;
 use std::alloc::{AllocError, Global};
@@ -10,12 +10,13 @@ use std::marker::Model;
 
 /// Groups of rows by their keys, with the running aggregates of each. Nothing is kept of a row beyond these.
 ///
-/// Contracts see how many columns rows are grouped by, the aggregates, and the rows that were added, in order. After want
-/// of memory in `add_row` there are no such rows: the groups are of no further use, and every call answers `AllocError`.
+/// Contracts see the columns that rows are grouped by, the aggregates, and what groups look at in the rows that were added, in
+/// order. After want of memory in `add_row` there are no such rows: the groups are of no further use, and every call answers
+/// `AllocError`.
 #[derive(Drop)]
 pub struct Groups {
     alloc: Global,
-    columns: u32,
+    columns: Seq<GroupColumn>,
     aggregates: Seq<Aggregate>,
     groups: IndexMap<GroupKey, GroupStates>,
     entries: Entries,
@@ -36,17 +37,21 @@ impl Model for Groups {
 
 impl Groups {
     ghost use Rattle.std.specs.Prelude.{◌≡◌, [], ◌++◌, length, Some, None, option_map, IsSome, IfOk, OnOk, OnErr};
-    ghost use Rattle.stats_groups.specs.Entries.{entry_of};
+    ghost use Rattle.stats_groups.specs.Entries.{entry_of_row};
     ghost use Rattle.stats_groups.specs.Grouped.{with_entry, rows_grouped, failures_grouped};
 
-    /// Groups by so many columns, before the first row.
-    pub fn new(alloc: Global, keys: u32, aggregates: Seq<Aggregate>) -> Result<Groups, AllocError>
-        ensures { IfOk result (λ groups. groups ≡ record { columns = keys; aggregates = aggregates; entries = Some [] }) }
+    /// Groups by these columns, before the first row.
+    pub fn new(
+        alloc: Global,
+        columns: Seq<GroupColumn>,
+        aggregates: Seq<Aggregate>,
+    ) -> Result<Groups, AllocError>
+        ensures { IfOk result (λ groups. groups ≡ record { columns = columns; aggregates = aggregates; entries = Some [] }) }
     {
-        let groups = groups_before(alloc, keys, aggregates.as_slice())?;
+        let groups = groups_before(alloc, columns.len(), aggregates.as_slice())?;
         Ok(Groups {
             alloc,
-            columns: keys,
+            columns,
             aggregates,
             groups,
             entries: Entries::new(),
@@ -54,30 +59,34 @@ impl Groups {
         })
     }
 
-    /// Adds a row, by its cells of the columns that rows are grouped by and those of the aggregates' inputs. A row counts in
-    /// the group of each choice of one of the distinct values of each key cell, or null where it has none.
+    /// Adds a row, by its cells in the order of the column numbers; a cell that is not there is null. A row counts in the group
+    /// of each choice of one of the distinct values of each key cell, or null where it has none.
     ///
     /// # Errors
     /// Want of memory, here or in an earlier call; the groups are then of no further use.
-    pub fn add_row(&mut self, keys: &Seq<Cell>, inputs: &Seq<Cell>) -> Result<(), AllocError>
-        requires { length keys.now ≡ self.old.columns }
-        ensures ok { OnOk result (self.new ≡ with_entry (entry_of keys.now inputs.now) self.old) }
+    pub fn add_row(&mut self, row: Seq<Cell>) -> Result<(), AllocError>
+        ensures ok { OnOk result (self.new ≡ with_entry (entry_of_row self.old.columns self.old.aggregates row) self.old) }
         ensures some { OnOk result (IsSome self.old.entries) }
         ensures err { OnErr result (self.new ≡ record self.old { entries = None }) }
     {
         if self.is_broken {
             return Err(AllocError);
         }
+        let entries = self.entries.then(&AddedRow {
+            columns: &self.columns,
+            aggregates: &self.aggregates,
+            row: &row,
+        });
         let added = add_row(
             self.alloc,
             &mut self.groups,
             self.aggregates.as_slice(),
-            keys.as_slice(),
-            inputs.as_slice(),
+            self.columns.as_slice(),
+            row,
         );
         match added {
             Ok(()) => {
-                self.entries = self.entries.then(&AddedRow { keys, inputs });
+                self.entries = entries;
                 Ok(())
             }
             Err(error) => {

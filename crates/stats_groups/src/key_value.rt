@@ -1,3 +1,4 @@
+use crate::hashes::hash_value;
 use esql_types::{Value, compare_values};
 use std::alloc::AllocError;
 use std::cmp::Ordering;
@@ -27,12 +28,6 @@ impl KeyValue {
         Ok(KeyValue {
             value: value.copy()?,
         })
-    }
-
-    pub(crate) fn copy(&self) -> Result<KeyValue, AllocError>
-        ensures { IfOk result (λ key. key ≡ self.now) }
-    {
-        KeyValue::of(&self.value)
     }
 
     pub(crate) fn into_value(self) -> Value
@@ -73,11 +68,6 @@ impl Hash for KeyValue {
     ghost respects_eq = { (same_Alike value_hashed same_decides).fed };
 
     fn hash<H: Hasher>(&self, state: &mut H) {
-        match &self.value {
-            Value::Int(number) => number.hash(state),
-            Value::Long(number) => number.hash(state),
-            Value::Bool(truth) => truth.hash(state),
-            Value::Text(text) => text.as_str().hash(state),
-        }
+        hash_value(&self.value, state);
     }
 }

@@ -6,9 +6,12 @@ mod entries;
 mod group_key;
 mod group_states;
 mod groups;
+mod hashes;
 mod key_value;
 mod keys;
 mod map;
+mod row_key;
+mod same;
 mod state;
 mod sum;
 #[cfg(test)]

@@ -1,12 +1,14 @@
 ghost use Rattle.std.specs.Prelude.{◌≡◌, ◌++◌, ◌∷◌, [], map, length, IfOk, OnOk};
 ghost use Rattle.std.specs.List.{flat_map};
 ghost use Rattle.plan_semantics.specs.Groups.{keys_of_cells};
+ghost use Rattle.stats_groups.specs.Entries.{cells_of, inputs_of};
 ghost use Rattle.stats_groups.specs.Maps.{with_row, with_row_at, groups_before, row_of_group, failures_of_group};
 
 use crate::group_key::GroupKey;
 use crate::group_states::GroupStates;
-use crate::keys::{are_single, first_key, keys_of_cells};
-use esql_plan::Aggregate;
+use crate::keys::keys_of_cells;
+use crate::row_key::{RowKey, cells_of_key, is_single_key, key_of_row};
+use esql_plan::{Aggregate, GroupColumn};
 use esql_types::{Cell, Failure, Seq};
 use indexmap::IndexMap;
 use std::alloc::{AllocError, Global};
@@ -14,35 +16,73 @@ use std::alloc::{AllocError, Global};
 /// The groups before the first row: where rows are grouped by no column there is one.
 pub(crate) fn groups_before(
     alloc: Global,
-    columns: u32,
+    columns: usize,
     aggregates: &[Aggregate],
 ) -> Result<IndexMap<GroupKey, GroupStates>, AllocError>
     ensures { IfOk result (λ groups. groups.entries ≡ groups_before columns aggregates.now) }
 {
     let mut groups = IndexMap::new(alloc);
     if columns == 0 {
-        groups.insert(GroupKey::empty(alloc), GroupStates::new(alloc, aggregates)?)?;
+        groups.insert(
+            GroupKey::of(Vec::new(alloc)),
+            GroupStates::new(alloc, aggregates)?,
+        )?;
     }
     Ok(groups)
 }
 
-/// Adds a row to the groups of its keys.
+/// Adds a row to the groups of its keys. A row of one key is looked up where it stands.
 pub(crate) fn add_row(
     alloc: Global,
     groups: &mut IndexMap<GroupKey, GroupStates>,
     aggregates: &[Aggregate],
-    keys: &[Cell],
-    inputs: &[Cell],
+    columns: &[GroupColumn],
+    row: Seq<Cell>,
 ) -> Result<(), AllocError>
-    ensures { OnOk result (groups.new.entries ≡ with_row_at aggregates.now (keys_of_cells keys.now) inputs.now groups.old.entries) }
+    ensures { OnOk result (groups.new.entries ≡ with_row_at aggregates.now (keys_of_cells (cells_of columns.now row)) (inputs_of aggregates.now row) groups.old.entries) }
 {
-    if are_single(keys) {
-        return add_to_group(alloc, groups, aggregates, first_key(alloc, keys)?, inputs);
+    let cells = row.as_slice();
+    let key = RowKey {
+        groups: columns,
+        row: cells,
+    };
+    if is_single_key(key) {
+        return add_to_group_of_row(alloc, groups, aggregates, columns, row);
     }
-    for key in keys_of_cells(alloc, keys)? {
-        add_to_group(alloc, groups, aggregates, key, inputs)?;
+    let whole = cells_of_key(alloc, key)?;
+    for one in keys_of_cells(alloc, whole.as_slice())? {
+        add_to_group(alloc, groups, aggregates, one, cells)?;
     }
     Ok(())
+}
+
+/// Adds a row to the group of its cells; a new group goes last.
+fn add_to_group_of_row(
+    alloc: Global,
+    groups: &mut IndexMap<GroupKey, GroupStates>,
+    aggregates: &[Aggregate],
+    columns: &[GroupColumn],
+    row: Seq<Cell>,
+) -> Result<(), AllocError>
+    ensures { OnOk result (groups.new.entries ≡ with_row aggregates.now (cells_of columns.now row) (inputs_of aggregates.now row) groups.old.entries) }
+{
+    let cells = row.as_slice();
+    let key = RowKey {
+        groups: columns,
+        row: cells,
+    };
+    match groups.get_index_of(key) {
+        Some(place) => {
+            groups[place].add(aggregates, cells)?;
+            Ok(())
+        }
+        None => {
+            let mut states = GroupStates::new(alloc, aggregates)?;
+            states.add(aggregates, cells)?;
+            groups.insert(key_of_row(alloc, columns, row)?, states)?;
+            Ok(())
+        }
+    }
 }
 
 /// Adds a row to the group of a key; a new group goes last.
@@ -51,18 +91,18 @@ fn add_to_group(
     groups: &mut IndexMap<GroupKey, GroupStates>,
     aggregates: &[Aggregate],
     key: GroupKey,
-    inputs: &[Cell],
+    row: &[Cell],
 ) -> Result<(), AllocError>
-    ensures { OnOk result (groups.new.entries ≡ with_row aggregates.now key inputs.now groups.old.entries) }
+    ensures { OnOk result (groups.new.entries ≡ with_row aggregates.now key (inputs_of aggregates.now row.now) groups.old.entries) }
 {
     match groups.get_index_of(&key) {
         Some(place) => {
-            groups[place].add(inputs)?;
+            groups[place].add(aggregates, row)?;
             Ok(())
         }
         None => {
             let mut states = GroupStates::new(alloc, aggregates)?;
-            states.add(inputs)?;
+            states.add(aggregates, row)?;
             groups.insert(key, states)?;
             Ok(())
         }
@@ -78,7 +118,7 @@ pub(crate) fn rows_of_groups(
     ensures rows { IfOk result (λ rows. rows ≡ map row_of_group groups.entries) }
     ensures failures { OnOk result (failures.new ≡ failures.old ++ flat_map failures_of_group groups.entries) }
 {
-    let mut rows = Seq::new(alloc);
+    let mut rows = Seq::from_vec(Vec::with_capacity(alloc, groups.len())?);
     for (key, states) in groups {
         rows.push(row_of_group(alloc, key, states, failures)?)?;
     }
@@ -94,8 +134,9 @@ fn row_of_group(
     ensures row { IfOk result (λ row. row ≡ row_of_group (key, states)) }
     ensures failures { OnOk result (failures.new ≡ failures.old ++ failures_of_group (key, states)) }
 {
-    let mut row = Seq::new(alloc);
+    let cells = states.len().saturating_add(key.as_slice().len());
+    let mut row = Seq::from_vec(Vec::with_capacity(alloc, cells)?);
     states.push_cells(alloc, &mut row, failures)?;
-    key.push_cells(alloc, &mut row)?;
+    key.push_cells(&mut row)?;
     Ok(row)
 }

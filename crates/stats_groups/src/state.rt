@@ -32,17 +32,17 @@ pub(crate) struct Running {
 
 impl State {
     /// The state over no rows.
-    pub(crate) fn new(alloc: Global, function: AggFunction) -> State
-        ensures { result ≡ state_before function }
+    pub(crate) fn new(alloc: Global, function: AggFunction) -> Result<State, AllocError>
+        ensures { IfOk result (λ state. state ≡ state_before function) }
     {
         match function {
-            AggFunction::CountRows => State::Rows(0),
-            AggFunction::Count => State::Count(0),
-            AggFunction::CountDistinct => State::CountDistinct(DistinctValues::new(alloc)),
-            AggFunction::Sum => State::Summed(LongSum::new()),
-            AggFunction::Min => State::Least(None),
-            AggFunction::Max => State::Greatest(None),
-            AggFunction::Values => State::Values(DistinctValues::new(alloc)),
+            AggFunction::CountRows => Ok(State::Rows(0)),
+            AggFunction::Count => Ok(State::Count(0)),
+            AggFunction::CountDistinct => Ok(State::CountDistinct(DistinctValues::new(alloc)?)),
+            AggFunction::Sum => Ok(State::Summed(LongSum::new())),
+            AggFunction::Min => Ok(State::Least(None)),
+            AggFunction::Max => Ok(State::Greatest(None)),
+            AggFunction::Values => Ok(State::Values(DistinctValues::new(alloc)?)),
         }
     }
 

@@ -1,5 +1,5 @@
 use crate::Groups;
-use esql_plan::{AggFunction, Aggregate};
+use esql_plan::{AggFunction, Aggregate, GroupColumn};
 use esql_types::{Cell, ColId, Failure, NodeId, Seq, Text, Value};
 use std::alloc::{AllocError, Global};
 use std::test::Fail;
@@ -20,25 +20,29 @@ fn texts(alloc: Global, texts: &[&str]) -> Result<Cell, AllocError> {
     Ok(cell)
 }
 
+// Aggregates of column 0.
 fn aggregates(alloc: Global, functions: &[AggFunction]) -> Result<Seq<Aggregate>, AllocError> {
     let mut aggregates = Seq::new(alloc);
     for function in functions {
         aggregates.push(Aggregate {
             node: NodeId(7),
             function: *function,
-            input: None,
+            input: Some(ColId(0)),
             to: ColId(0),
         })?;
     }
     Ok(aggregates)
 }
 
-fn copies(alloc: Global, cell: &Cell, count: usize) -> Result<Seq<Cell>, AllocError> {
-    let mut cells = Seq::new(alloc);
-    for _ in 0..count {
-        cells.push(cell.copy()?)?;
+fn columns(alloc: Global, numbers: &[u32]) -> Result<Seq<GroupColumn>, AllocError> {
+    let mut columns = Seq::new(alloc);
+    for number in numbers {
+        columns.push(GroupColumn {
+            id: ColId(*number),
+            to: ColId(*number),
+        })?;
     }
-    Ok(cells)
+    Ok(columns)
 }
 
 fn push_cell(out: &mut String, cell: &Cell) -> Result<(), AllocError> {
@@ -64,20 +68,26 @@ fn shown(alloc: Global, rows: &[Seq<Cell>]) -> Result<String, AllocError> {
     Ok(out)
 }
 
-// ROW k = ["x", "x", "y"], j = null | STATS n = COUNT(*) BY k, j
+// ROW k = ["x", "x", "y"], j = null | STATS n = COUNT(*) BY k, j, and then two rows of one key.
 #[test]
 fn a_row_counts_in_each_of_its_groups(rt: HostRuntime) -> Result<(), Fail> {
     let alloc = rt.alloc();
-    let mut groups = Groups::new(alloc, 2, aggregates(alloc, &[AggFunction::CountRows])?)?;
-    let mut keys = Seq::new(alloc);
-    keys.push(texts(alloc, &["x", "x", "y"])?)?;
-    keys.push(Cell::null(alloc))?;
-    let inputs = copies(alloc, &Cell::null(alloc), 1)?;
-    groups.add_row(&keys, &inputs)?;
+    let by = columns(alloc, &[0, 1])?;
+    let mut groups = Groups::new(alloc, by, aggregates(alloc, &[AggFunction::CountRows])?)?;
+    let keys: [&[&str]; 3] = [&["x", "x", "y"], &["y"], &[]];
+    for key in keys {
+        let mut row = Seq::new(alloc);
+        row.push(texts(alloc, key)?)?;
+        row.push(Cell::null(alloc))?;
+        groups.add_row(row)?;
+    }
     let mut failures: Seq<Failure> = Seq::new(alloc);
     let rows = groups.finish(&mut failures)?;
     let given = shown(alloc, rows.as_slice())?;
-    assert!(rt; given.as_str() == "[1 ][x ][];[1 ][y ][];", "{given}");
+    assert!(rt;
+        given.as_str() == "[1 ][x ][];[2 ][y ][];[1 ][][];",
+        "{given}"
+    );
     Ok(())
 }
 
@@ -93,11 +103,13 @@ fn aggregates_of_one_group(rt: HostRuntime) -> Result<(), Fail> {
         AggFunction::Max,
         AggFunction::Values,
     ];
-    let mut groups = Groups::new(alloc, 0, aggregates(alloc, &functions)?)?;
-    let first = copies(alloc, &longs(alloc, &[3, 1])?, 7)?;
-    groups.add_row(&Seq::new(alloc), &first)?;
-    let second = copies(alloc, &longs(alloc, &[3, 2])?, 7)?;
-    groups.add_row(&Seq::new(alloc), &second)?;
+    let mut groups = Groups::new(alloc, Seq::new(alloc), aggregates(alloc, &functions)?)?;
+    let cells: [&[i64]; 2] = [&[3, 1], &[3, 2]];
+    for numbers in cells {
+        let mut row = Seq::new(alloc);
+        row.push(longs(alloc, numbers)?)?;
+        groups.add_row(row)?;
+    }
     let mut failures: Seq<Failure> = Seq::new(alloc);
     let rows = groups.finish(&mut failures)?;
     let given = shown(alloc, rows.as_slice())?;

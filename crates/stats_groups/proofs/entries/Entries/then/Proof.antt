@@ -25,7 +25,7 @@ use denote.Triple.Entry.{alive}
 use denote.Triple.Spec.{Meets, triple_of}
 use denote.Triple.Table.{entered}
 use denote.Triple.Walked.{says, Stays, stay_dropped, walk_of, ends_at, walk_Meets, Goes-dropped}
-use Rattle.stats_groups.specs.Entries.{entry_of}
+use Rattle.stats_groups.specs.Entries.{entry_of_row}
 use Rattle.stats_groups.proofs.Walks.{empty_value, made_empty}
 use Rattle.stats_groups.specs.contracts.entries.Entries as Entries
 use Rattle.stats_groups.specs.contracts.entries.AddedRow as AddedRow
@@ -62,7 +62,7 @@ module _ {M : Type 1} {𝓤 : Ura M} (𝓛 : Logic 𝓤) (at_mem : Memory → SP
         let vss = z.0.4 in
         let u : Val = vptr a.0.ref_ptr.0 a.0.ref_ptr.1 in
         let v : Val = vptr a.1.0.ref_ptr.0 a.1.0.ref_ptr.1 in
-        let chosen : Entries.the_row.Denot = record { list = a.0.now.list ++ entry_of a.1.0.now.keys.now a.1.0.now.inputs.now ∷ [] } in
+        let chosen : Entries.the_row.Denot = record { list = a.0.now.list ++ entry_of_row a.1.0.now.columns.now a.1.0.now.aggregates.now a.1.0.now.row.now ∷ [] } in
         qed 𝓛 ((raw tokens ⊛ ‵ (owns (types_at ended.signature.params z.0.0) a vss)) ∷ raw ((held z.0.0 a).requires z.1) ∷ []) ∵
         keep ! (0 ∷ []) $ split ! $ move ! (1 ∷ []) $ fsplit ! $ fsplit ! $ feq_l ! (λ is₀. drop ! $ fsplit ! $ fsplit ! $ feq_l ! (λ is₁. drop ! $ drop ! $
         regoal ! (λ (us : List Val). prop (WpFn 𝓤 H C Λ function (us ++ (vss.1.0 ++ [])) Post)) is₀ refl $
