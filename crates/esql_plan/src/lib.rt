@@ -23,5 +23,5 @@ pub use laws::{
 };
 pub use names::{FunctionRow, cast_function, find_aggregate, find_function};
 pub use plan::{OutColumn, Plan, PlanSource, ScanColumn};
-pub use step::{Aggregate, GroupColumn, PlanKey, Step};
+pub use step::{Aggregate, GroupColumn, NewColumn, PlanKey, Step};
 pub use typed::{TypedExpr, TypedForm};

@@ -1,5 +1,5 @@
 use crate::{AggFunction, TypedExpr};
-use esql_types::{ColId, NodeId, Seq};
+use esql_types::{ColId, Kind, NodeId, Seq, Text};
 
 /// A step of a plan, from rows to rows.
 #[derive(Drop)]
@@ -37,27 +37,37 @@ pub enum Step {
         aggregates: Seq<Aggregate>,
         groups: Seq<GroupColumn>,
     },
-    /// The texts that a DISSECT pattern cuts out of a column.
+    /// The texts that a DISSECT pattern cuts out of a column, those of one name joined by the separator.
     Dissect {
         node: NodeId,
         input: ColId,
         cutter: u32,
-        to: Seq<ColId>,
+        pattern: Text,
+        separator: Text,
+        to: Seq<NewColumn>,
     },
     /// The texts that a GROK pattern takes out of a column.
     Grok {
         node: NodeId,
         input: ColId,
         cutter: u32,
-        to: Seq<ColId>,
+        pattern: Text,
+        to: Seq<NewColumn>,
     },
     /// The fields of the rows that a policy matches with a column, each in its new column.
     Enrich {
         policy: u32,
         on: ColId,
         fields: Seq<u32>,
-        to: Seq<ColId>,
+        to: Seq<NewColumn>,
     },
+}
+
+/// A new column of a step, and the kind of its cells.
+#[derive(Clone, Copy, Debug, PartialEq, Eq)]
+pub struct NewColumn {
+    pub id: ColId,
+    pub kind: Kind,
 }
 
 /// A column that rows are sorted by.

@@ -1,11 +1,12 @@
 -- A well formed plan fails at nodes below its number alone.
-use Rattle.std.proofs.Common.{◌≡◌, ℕ, ◌≤◌, ◌<◌, ◌==◌, nat_lt, Bool, true, false, List, [], ◌∷◌, ◌++◌, map, filter, All, refl, ap, sym, ◌∙◌, arith, cond, if◌then◌else◌}
+use Rattle.std.proofs.Common.{◌≡◌, ℕ, ◌≤◌, ◌<◌, ◌==◌, nat_lt, Bool, true, false, List, [], ◌∷◌, ◌++◌, map, length, filter, All, refl, ap, sym, ◌∙◌, arith, cond, if◌then◌else◌}
 use Rattle.std.specs.List.{flat_map}
 use Rattle.std.proofs.lemmas.Bool.Decides.{nat_tests}
 use Rattle.std.proofs.lemmas.List.Elements.{All-nil, All-cons, All-head, All-tail, All-append, All-map, All-weaker}
 use Rattle.esql_types.specs.declared.cause.Cause.{Cause}
 use Rattle.esql_types.specs.declared.cause.Failure.{Failure}
 use Rattle.esql_types.specs.declared.names.NodeId.{NodeId}
+use Rattle.esql_types.specs.declared.value.Value.{Value}
 use Rattle.esql_plan.specs.declared.typed.TypedExpr.{TypedExpr}
 use Rattle.esql_plan.specs.declared.plan.OutColumn.{OutColumn}
 use Rattle.esql_plan.specs.declared.step.Aggregate.{Aggregate}
@@ -13,18 +14,23 @@ use Rattle.esql_plan.specs.declared.step.Step.{Step}
 use Rattle.esql_plan.specs.declared.step.Step.TheVariants.{Eval, Filter, Sort, TopN, Limit, Expand, Stats, Dissect, Grok, Enrich}
 use Rattle.esql_plan.specs.Rules.{multi_of}
 use Rattle.esql_plan.specs.Values.{NumberedRow, failures_at, value_of_typed}
+use Rattle.plan_semantics.specs.Taken.{grokked}
 use Rattle.plan_semantics.specs.Steps.{step_fails, failures_after}
 use Rattle.plan_semantics.specs.Agrees.{causes_at}
 use Rattle.plan_semantics.specs.Parts.{parted, fails_in, parts_after, fails_at, count_of}
 use Rattle.plan_semantics.specs.WellFormed.{Bounds, MadeColumn, nodes_of, step_nodes, step_made, ExprStands, AggregateStands, StepStands, StepsStand}
 use Rattle.plan_semantics.specs.Laws.{AreBelow}
-use Rattle.plan_semantics.proofs.Transposed.{causes-append, uncounted, on, fails_first}
+use Rattle.plan_semantics.proofs.Transposed.{causes-append, quiet, uncounted, on as on_row, fails_first}
 use Rattle.plan_semantics.proofs.Failing.{none_fails, failures_by_parts}
 use Rattle.plan_semantics.proofs.FailingSteps.{steps_by_parts, one_by_one}
-use Rattle.plan_semantics.proofs.OwnNodes.{has_own, places, parts_count, steps_count}
+use Rattle.plan_semantics.proofs.OwnNodes.{has_own, grok_quiet, places, parts_count, steps_count}
+use Rattle.plan_semantics.specs.Tables.{CatalogHeld}
 
 abbrev IsBelow : ℕ → NodeId → Type 0
 IsBelow nodes node = node.0 < nodes
+
+differ : (n m : ℕ) → n < m → n == m ≡ false
+differ n m less = grind arith
 
 -- a node that is not below a number is at none of the places that are
 no_place : (nodes : ℕ) (node : NodeId) → nodes ≤ node.0 → (ones : List NodeId) → All (IsBelow nodes) ones → places node ones ≤ 0
@@ -34,9 +40,6 @@ no_place nodes node above (one ∷ ones) all =
     let other : one.0 == node.0 ≡ false = differ one.0 node.0 (omega (arith, below, above)) in
     let off : cond {A = ℕ} (one.0 == node.0) 1 0 ≡ 0 = ap (λ (b : Bool). cond {A = ℕ} b 1 0) other in
     omega (arith, off, no_place nodes node above ones (All-tail (IsBelow nodes) one ones all))
-  where
-    differ : (n m : ℕ) → n < m → n == m ≡ false
-    differ n m less = grind arith
 
 abbrev others : NodeId → List Failure → List Failure
 others node failures = filter (λ (failure : Failure). failure.node.0 == node.0) failures
@@ -77,13 +80,17 @@ value_below bounds made expr stands row = below_from bounds.nodes (value_of_type
     let first = fails_first node (parted expr).parts row [] in
     failures_by_parts node row expr (omega (arith, none, counts, first)) ∙ none_on node (omega (arith, none, counts, first)))
   where
-    none_on : (node : NodeId) → count_of (fails_at node) (on (parted expr).parts row) ≤ 0 → causes_at node (fails_in (parted expr).parts row) ≡ []
+    none_on : (node : NodeId) → count_of (fails_at node) (on_row (parted expr).parts row) ≤ 0 → causes_at node (fails_in (parted expr).parts row) ≡ []
     none_on node none = none_fails node row (parted expr).parts none
 
 at_below : (nodes : ℕ) (node : NodeId) → node.0 < nodes → (causes : List Cause) → AreBelow nodes (failures_at node causes)
 at_below nodes node below [] = All-nil (λ (failure : Failure). failure.node.0 < nodes)
 at_below nodes node below (cause ∷ causes) =
     All-cons (λ (failure : Failure). failure.node.0 < nodes) (record { node = node; cause = cause }) (failures_at node causes) below (at_below nodes node below causes)
+
+grok_below : (nodes : ℕ) (node : NodeId) → node.0 < nodes → (pattern : List ℕ) (count : ℕ) (cell : List Value) → AreBelow nodes (grokked node pattern count cell).failures
+grok_below nodes node below pattern count cell = below_from nodes (grokked node pattern count cell).failures (λ other above.
+    quiet other (grokked node pattern count cell).failures (grok_quiet other node (differ node.0 other.0 (omega (arith, below, above))) pattern count cell))
 
 -- what a step fails with on one row
 pub step_fails_below : (bounds : Bounds) (made : List MadeColumn) (step : Step) → StepStands bounds made step → (row : NumberedRow) → AreBelow bounds.nodes (step_fails step row)
@@ -96,9 +103,9 @@ step_fails_below bounds made (Sort keys) stands row = All-nil (λ (failure : Fai
 step_fails_below bounds made (TopN keys count) stands row = All-nil (λ (failure : Failure). failure.node.0 < bounds.nodes)
 step_fails_below bounds made (Limit count) stands row = All-nil (λ (failure : Failure). failure.node.0 < bounds.nodes)
 step_fails_below bounds made (Stats aggregates groups) stands row = All-nil (λ (failure : Failure). failure.node.0 < bounds.nodes)
-step_fails_below bounds made (Dissect node input cutter to) stands row = absurd stands
-step_fails_below bounds made (Grok node input cutter to) stands row = absurd stands
-step_fails_below bounds made (Enrich policy on fields to) stands row = absurd stands
+step_fails_below bounds made (Dissect node input cutter pattern separator to) stands row = All-nil (λ (failure : Failure). failure.node.0 < bounds.nodes)
+step_fails_below bounds made (Grok node input cutter pattern to) stands row = grok_below bounds.nodes node stands.below pattern (length to) (row input.0)
+step_fails_below bounds made (Enrich policy on fields to) stands row = All-nil (λ (failure : Failure). failure.node.0 < bounds.nodes)
 
 step_below : (bounds : Bounds) (made : List MadeColumn) (step : Step) → StepStands bounds made step → All (IsBelow bounds.nodes) (step_nodes step)
 step_below bounds made (Eval to expr) stands = stands.0.nodes
@@ -111,18 +118,18 @@ step_below bounds made (Limit count) stands = All-nil (IsBelow bounds.nodes)
 step_below bounds made (Stats aggregates groups) stands =
     All-map (IsBelow bounds.nodes) (λ (aggregate : Aggregate). aggregate.node) aggregates
     (All-weaker (AggregateStands bounds made) (λ (aggregate : Aggregate). aggregate.node.0 < bounds.nodes) (λ aggregate own. own.below) aggregates stands.stand)
-step_below bounds made (Dissect node input cutter to) stands = absurd stands
-step_below bounds made (Grok node input cutter to) stands = absurd stands
-step_below bounds made (Enrich policy on fields to) stands = absurd stands
+step_below bounds made (Dissect node input cutter pattern separator to) stands = All-nil (IsBelow bounds.nodes)
+step_below bounds made (Grok node input cutter pattern to) stands = All-cons (IsBelow bounds.nodes) node [] stands.below (All-nil (IsBelow bounds.nodes))
+step_below bounds made (Enrich policy on fields to) stands = All-nil (IsBelow bounds.nodes)
 
 steps_below : (bounds : Bounds) (output : List OutColumn) (made : List MadeColumn) (steps : List Step) → StepsStand bounds output made steps → All (IsBelow bounds.nodes) (flat_map step_nodes steps)
 steps_below bounds output made [] stands = All-nil (IsBelow bounds.nodes)
 steps_below bounds output made (step ∷ steps) stands =
     All-append (IsBelow bounds.nodes) (step_nodes step) (flat_map step_nodes steps) (step_below bounds made step stands.0) (steps_below bounds output (step_made made step) steps stands.1)
 
-pub failures_below : (bounds : Bounds) (output : List OutColumn) (made : List MadeColumn) (steps : List Step) → StepsStand bounds output made steps
-    → (rows : List NumberedRow) → AreBelow bounds.nodes (failures_after steps rows)
-failures_below bounds output made steps stands rows = below_from bounds.nodes (failures_after steps rows) (λ node above.
+pub failures_below : (held : CatalogHeld) → (bounds : Bounds) (output : List OutColumn) (made : List MadeColumn) (steps : List Step) → StepsStand bounds output made steps
+    → (rows : List NumberedRow) → AreBelow bounds.nodes (failures_after held steps rows)
+failures_below held bounds output made steps stands rows = below_from bounds.nodes (failures_after held steps rows) (λ node above.
     let none = no_place bounds.nodes node above (flat_map step_nodes steps) (steps_below bounds output made steps stands) in
-    let counts = steps_count node steps rows in
-    steps_by_parts node steps rows (omega (arith, none, counts)) ∙ none_at node (parts_after steps rows) (omega (arith, none, counts)))
+    let counts = steps_count node held steps rows in
+    steps_by_parts node held steps rows (omega (arith, none, counts)) ∙ none_at node (parts_after held steps rows) (omega (arith, none, counts)))

@@ -15,9 +15,10 @@ use Rattle.plan_semantics.specs.Groups.{Key, Entry, keys_of_groups, entries_of_k
 use Rattle.plan_semantics.specs.Stats.{entries_of}
 use Rattle.plan_semantics.specs.Steps.{step_rows, step_fails, step_failures, failures_after}
 use Rattle.plan_semantics.specs.Agrees.{causes_at}
-use Rattle.plan_semantics.specs.Parts.{FalliblePart, parted, fails_in, over_rows, condition_part, aggregate_part, aggregate_parts, step_parts, parts_after, fails_at, count_of}
+use Rattle.plan_semantics.specs.Parts.{FalliblePart, parted, fails_in, over_rows, condition_part, aggregate_part, grok_part, aggregate_parts, step_parts, parts_after, fails_at, count_of}
 use Rattle.plan_semantics.proofs.Transposed.{count_of-append, causes-append, on, by_rows, by_parts, alike_over, same_at}
 use Rattle.plan_semantics.proofs.Failing.{failures_by_parts}
+use Rattle.plan_semantics.specs.Tables.{CatalogHeld}
 
 module _ (node : NodeId) where
   -- an expression over rows, row by row and part by part
@@ -73,16 +74,18 @@ module _ (node : NodeId) where
       let entries : List Entry = entries_of aggregates groups rows in
       over_alike (λ (key : Key). failures_given aggregates (aggregates_at aggregates entries key)) (aggregate_parts 0 aggregates entries)
       (λ key none. ap (causes_at node) (given_by_parts 0 aggregates entries key)) (keys_of_groups (length groups) entries) once
-  step_by_parts (Dissect own input cutter to) rows once = over_alike (step_fails (Dissect own input cutter to)) [] (λ row none. refl) rows once
-  step_by_parts (Grok own input cutter to) rows once = over_alike (step_fails (Grok own input cutter to)) [] (λ row none. refl) rows once
+  step_by_parts (Dissect own input cutter pattern separator to) rows once = over_alike (step_fails (Dissect own input cutter pattern separator to)) [] (λ row none. refl) rows once
+  step_by_parts (Grok own input cutter pattern to) rows once =
+      over_alike (step_fails (Grok own input cutter pattern to)) (grok_part own input pattern (length to) ∷ [])
+      (λ row alone. ap (causes_at node) (sym (append-nil (step_fails (Grok own input cutter pattern to) row)))) rows once
   step_by_parts (Enrich policy on fields to) rows once = over_alike (step_fails (Enrich policy on fields to)) [] (λ row none. refl) rows once
 
-  pub steps_by_parts : (steps : List Step) (rows : List NumberedRow) → count_of (fails_at node) (parts_after steps rows) ≤ 1
-      → causes_at node (failures_after steps rows) ≡ causes_at node (one_by_one (parts_after steps rows))
-  steps_by_parts [] rows once = refl
-  steps_by_parts (step ∷ steps) rows once =
-      let split = count_of-append (fails_at node) (step_parts step rows) (parts_after steps (step_rows step rows)) in
-      causes-append node (step_failures step rows) (failures_after steps (step_rows step rows))
-      ∙ (λ i. step_by_parts step rows (omega (arith, split, once)) i ++ steps_by_parts steps (step_rows step rows) (omega (arith, split, once)) i)
-      ∙ sym (causes-append node (one_by_one (step_parts step rows)) (one_by_one (parts_after steps (step_rows step rows))))
-      ∙ ap (causes_at node) (sym (flat_map-append (λ (these : List Failure). these) (step_parts step rows) (parts_after steps (step_rows step rows))))
+  pub steps_by_parts : (held : CatalogHeld) → (steps : List Step) (rows : List NumberedRow) → count_of (fails_at node) (parts_after held steps rows) ≤ 1
+      → causes_at node (failures_after held steps rows) ≡ causes_at node (one_by_one (parts_after held steps rows))
+  steps_by_parts held [] rows once = refl
+  steps_by_parts held (step ∷ steps) rows once =
+      let split = count_of-append (fails_at node) (step_parts step rows) (parts_after held steps (step_rows held step rows)) in
+      causes-append node (step_failures step rows) (failures_after held steps (step_rows held step rows))
+      ∙ (λ i. step_by_parts step rows (omega (arith, split, once)) i ++ steps_by_parts held steps (step_rows held step rows) (omega (arith, split, once)) i)
+      ∙ sym (causes-append node (one_by_one (step_parts step rows)) (one_by_one (parts_after held steps (step_rows held step rows))))
+      ∙ ap (causes_at node) (sym (flat_map-append (λ (these : List Failure). these) (step_parts step rows) (parts_after held steps (step_rows held step rows))))

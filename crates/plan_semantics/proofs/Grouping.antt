@@ -17,7 +17,7 @@ use Rattle.esql_plan.specs.declared.function.AggFunction.TheVariants.{CountRows}
 use Rattle.esql_plan.specs.declared.step.Aggregate.{Aggregate}
 use Rattle.esql_plan.specs.declared.step.Step.TheVariants.{Stats}
 use Rattle.esql_plan.specs.Values.{NumberedRow}
-use Rattle.plan_semantics.specs.Tables.{empty_row}
+use Rattle.plan_semantics.specs.Tables.{CatalogHeld, empty_row}
 use Rattle.plan_semantics.specs.Groups.{same_value, same_list, same_key, Key, keys_of_cells, Entry, keys_of_entry, keys_of_groups, entries_of_key, aggregate_of, values_at}
 use Rattle.plan_semantics.specs.Stats.{entries_of}
 use Rattle.plan_semantics.specs.Steps.{step_rows}
@@ -181,9 +181,9 @@ all_in : (aggregates : List Aggregate) (rows : List NumberedRow) → entries_of_
 all_in aggregates [] = refl
 all_in aggregates (row ∷ rows) = λ i. entries_of aggregates [] (row ∷ []) ++ all_in aggregates rows i
 
-pub all_counted : (count : Aggregate) (rows : List NumberedRow) → count.function ≡ CountRows
-    → map (λ (row : NumberedRow). row count.to.0) (step_rows (Stats (count ∷ []) []) rows) ≡ (Long (pos (min (length rows) 9223372036854775807)) ∷ []) ∷ []
-all_counted count rows counts =
+pub all_counted : (held : CatalogHeld) → (count : Aggregate) (rows : List NumberedRow) → count.function ≡ CountRows
+    → map (λ (row : NumberedRow). row count.to.0) (step_rows held (Stats (count ∷ []) []) rows) ≡ (Long (pos (min (length rows) 9223372036854775807)) ∷ []) ∷ []
+all_counted held count rows counts =
     let entries : List Entry = entries_of (count ∷ []) [] rows in
     let own : List Entry = entries_of_key [] entries in
     ap (λ (cell : List Value). cell ∷ []) (

@@ -11,6 +11,11 @@ pub mod OwnNodes
 pub mod ResultKinds
 pub mod ValueKinds
 pub mod RowKinds
+pub mod GrokKinds
+pub mod TakenKinds
+pub mod NewColumns
+pub mod EnrichKinds
+pub mod NullGiven
 pub mod StatsKinds
 pub mod StepKinds
 pub mod SameValues

@@ -3,7 +3,7 @@ use Rattle.std.proofs.Common.{◌≡◌, ℕ, ◌<◌, ◌≤◌, ◌==◌, Bool
 use Rattle.std.specs.List.{flat_map, AllByRecursion, IsDistinct}
 use Rattle.std.proofs.lemmas.List.{append-nil, map-append}
 use Rattle.std.proofs.lemmas.Grind.{flat_map-append}
-use Rattle.std.proofs.lemmas.List.Elements.{All-nil, All-cons, All-head, All-tail, All-map, All-weaker}
+use Rattle.std.proofs.lemmas.List.Elements.{All-nil, All-cons, All-head, All-tail, All-append, All-map, All-weaker}
 use Rattle.std.proofs.lemmas.Map.Keys.{IsDistinct-head, IsDistinct-tail, IsDistinct-cons}
 use Rattle.esql_types.specs.declared.value.Kind.{Kind}
 use Rattle.esql_types.specs.declared.names.ColId.{ColId}
@@ -12,12 +12,13 @@ use Rattle.esql_plan.specs.declared.plan.PlanSource.{PlanSource}
 use Rattle.esql_plan.specs.declared.plan.PlanSource.TheVariants.{OneRow, Scan}
 use Rattle.esql_plan.specs.declared.plan.ScanColumn.{ScanColumn}
 use Rattle.esql_plan.specs.declared.plan.OutColumn.{OutColumn}
+use Rattle.esql_plan.specs.declared.step.NewColumn.{NewColumn}
 use Rattle.esql_plan.specs.declared.step.Step.{Step}
 use Rattle.esql_plan.specs.declared.step.Step.TheVariants.{Eval, Filter, Sort, TopN, Limit, Expand, Stats, Dissect, Grok, Enrich}
 use Rattle.esql_plan.proofs.TypedFolds.{map_map}
 use Rattle.plan_semantics.specs.Steps.{is_stats}
-use Rattle.plan_semantics.specs.WellFormed.{Bounds, MadeColumn, made_as, IsNew, kind_made, source_made, source_makes, step_made, step_makes, StepStands, StepsStand, SourceStands, AreOnce, AreMadeOnce}
-use Rattle.plan_semantics.proofs.Keeps.{other_number}
+use Rattle.plan_semantics.specs.WellFormed.{Bounds, MadeColumn, made_as, IsNew, kind_made, new_made, new_ids, NewStand, source_made, source_makes, step_made, step_makes, StepStands, StepsStand, SourceStands, AreOnce, AreMadeOnce}
+use Rattle.plan_semantics.proofs.Keeps.{other_number, are_new}
 
 abbrev same_number : ℕ → ℕ → Bool
 same_number this that = this == that
@@ -69,6 +70,33 @@ one_fresh made to kind new ids rest =
           rest.once;
     }
 
+-- columns more in front
+behind_new : (made : List MadeColumn) (to : List NewColumn) (id : ℕ) → IsFresh (new_made to ++ made) id → IsFresh made id
+behind_new made [] id fresh = fresh
+behind_new made (one ∷ to) id fresh =
+    behind_new made to id (All-tail (λ (column : MadeColumn). id == column.id ≡ false) (made_as one.id one.kind) (new_made to ++ made) fresh)
+
+apart_of_new : (made : List MadeColumn) (to : List NewColumn) (ids : List ℕ) → All (IsFresh (new_made to ++ made)) ids → All (λ x. All (Differ x) ids) (numbers_of (new_ids to))
+apart_of_new made [] ids fresh = All-nil (λ x. All (Differ x) ids)
+apart_of_new made (one ∷ to) ids fresh =
+    let rest : List MadeColumn = new_made to ++ made in
+    let own : MadeColumn = made_as one.id one.kind in
+    let Q : ℕ → MadeColumn → Type 0 = λ id column. id == column.id ≡ false in
+    All-cons (λ x. All (Differ x) ids) one.id.0 (numbers_of (new_ids to))
+    (All-weaker (IsFresh (own ∷ rest)) (Differ one.id.0) (λ id all. other_number id one.id.0 (All-head (Q id) own rest all)) ids fresh)
+    (apart_of_new made to ids (All-weaker (IsFresh (own ∷ rest)) (IsFresh rest) (λ id all. All-tail (Q id) own rest all) ids fresh))
+
+new_fresh : (bounds : Bounds) (made : List MadeColumn) (to : List NewColumn) → NewStand bounds made to → (later : List ColId)
+    → AreFresh (new_made to ++ made) (numbers_of later) → AreFresh made (numbers_of (new_ids to ++ later))
+new_fresh bounds made to stands later rest =
+    let ids : List ℕ = numbers_of later in
+    subst (AreFresh made) (sym (map-append (λ (id : ColId). id.0) (new_ids to) later)) (record {
+      new = All-append (IsFresh made) (numbers_of (new_ids to)) ids
+          (All-map (IsFresh made) (λ (id : ColId). id.0) (new_ids to) (All-map (λ (id : ColId). IsFresh made id.0) (λ (new : NewColumn). new.id) to (are_new bounds made to stands)))
+          (All-weaker (IsFresh (new_made to ++ made)) (IsFresh made) (behind_new made to) ids rest.new);
+      once = distinct-append (numbers_of (new_ids to)) ids stands.once rest.once (apart_of_new made to ids rest.new);
+    })
+
 abbrev IsNoStats : Step → Type 0
 IsNoStats step = is_stats step ≡ false
 
@@ -85,9 +113,9 @@ module _ (bounds : Bounds) (output : List OutColumn) where
       by_step (TopN keys count) own isnt rest = rest
       by_step (Limit count) own isnt rest = rest
       by_step (Stats aggregates groups) own isnt rest = absurd cc
-      by_step (Dissect node input cutter to) own isnt rest = absurd own
-      by_step (Grok node input cutter to) own isnt rest = absurd own
-      by_step (Enrich policy on fields to) own isnt rest = absurd own
+      by_step (Dissect node input cutter pattern separator to) own isnt rest = new_fresh bounds made to own.cut.new (flat_map step_makes steps) rest
+      by_step (Grok node input cutter pattern to) own isnt rest = new_fresh bounds made to own.cut.new (flat_map step_makes steps) rest
+      by_step (Enrich policy on fields to) own isnt rest = new_fresh bounds made to own.new (flat_map step_makes steps) rest
 
   -- what is fresh differs from what is made
   apart_from : (columns : List ScanColumn) (ids : List ℕ) → All (IsFresh (map (λ (column : ScanColumn). made_as column.to column.kind) columns)) ids

@@ -11,29 +11,30 @@ use Rattle.esql_plan.specs.Values.{NumberedRow}
 use Rattle.plan_semantics.specs.Steps.{step_rows, rows_after}
 use Rattle.plan_semantics.specs.Parts.{FalliblePart, parted, condition_part, over_rows, step_parts, parts_after, fails_at, count_of, AreOrderly, IsExprOrderly}
 use Rattle.plan_semantics.proofs.Transposed.{count_of-append}
+use Rattle.plan_semantics.specs.Tables.{CatalogHeld}
 
 -- the steps behind the first of steps that are orderly
-pub orderly_later : (step : Step) (steps : List Step) (rows : List NumberedRow) → AreOrderly (step ∷ steps) rows → AreOrderly steps (step_rows step rows)
-orderly_later step steps rows orderly node = omega (arith, orderly node, count_of-append (fails_at node) (step_parts step rows) (parts_after steps (step_rows step rows)))
+pub orderly_later : (held : CatalogHeld) → (step : Step) (steps : List Step) (rows : List NumberedRow) → AreOrderly held (step ∷ steps) rows → AreOrderly held steps (step_rows held step rows)
+orderly_later held step steps rows orderly node = omega (arith, orderly node, count_of-append (fails_at node) (step_parts step rows) (parts_after held steps (step_rows held step rows)))
 
 -- the first of steps that are orderly
-pub orderly_first : (step : Step) (steps : List Step) (rows : List NumberedRow) → AreOrderly (step ∷ steps) rows
+pub orderly_first : (held : CatalogHeld) → (step : Step) (steps : List Step) (rows : List NumberedRow) → AreOrderly held (step ∷ steps) rows
     → (node : NodeId) → count_of (fails_at node) (step_parts step rows) ≤ 1
-orderly_first step steps rows orderly node = omega (arith, orderly node, count_of-append (fails_at node) (step_parts step rows) (parts_after steps (step_rows step rows)))
+orderly_first held step steps rows orderly node = omega (arith, orderly node, count_of-append (fails_at node) (step_parts step rows) (parts_after held steps (step_rows held step rows)))
 
-pub orderly_behind : (these those : List Step) (rows : List NumberedRow) → AreOrderly (these ++ those) rows → AreOrderly those (rows_after these rows)
-orderly_behind [] those rows orderly = orderly
-orderly_behind (step ∷ these) those rows orderly = orderly_behind these those (step_rows step rows) (orderly_later step (these ++ those) rows orderly)
+pub orderly_behind : (held : CatalogHeld) → (these those : List Step) (rows : List NumberedRow) → AreOrderly held (these ++ those) rows → AreOrderly held those (rows_after held these rows)
+orderly_behind held [] those rows orderly = orderly
+orderly_behind held (step ∷ these) those rows orderly = orderly_behind held these those (step_rows held step rows) (orderly_later held step (these ++ those) rows orderly)
 
 -- the expressions of the first step
-pub orderly_eval : (to : ColId) (expr : TypedExpr) (steps : List Step) (rows : List NumberedRow) → AreOrderly (Eval to expr ∷ steps) rows → IsExprOrderly expr rows
-orderly_eval to expr steps rows orderly = orderly_first (Eval to expr) steps rows orderly
+pub orderly_eval : (held : CatalogHeld) → (to : ColId) (expr : TypedExpr) (steps : List Step) (rows : List NumberedRow) → AreOrderly held (Eval to expr ∷ steps) rows → IsExprOrderly expr rows
+orderly_eval held to expr steps rows orderly = orderly_first held (Eval to expr) steps rows orderly
 
-pub orderly_condition : (own : NodeId) (condition : TypedExpr) (steps : List Step) (rows : List NumberedRow) → AreOrderly (Filter own condition ∷ steps) rows → IsExprOrderly condition rows
-orderly_condition own condition steps rows orderly node =
+pub orderly_condition : (held : CatalogHeld) → (own : NodeId) (condition : TypedExpr) (steps : List Step) (rows : List NumberedRow) → AreOrderly held (Filter own condition ∷ steps) rows → IsExprOrderly condition rows
+orderly_condition held own condition steps rows orderly node =
     omega (
       arith,
-      orderly_first (Filter own condition) steps rows orderly node,
+      orderly_first held (Filter own condition) steps rows orderly node,
       ap (count_of (fails_at node)) (map-append (λ (part : FalliblePart). flat_map part rows) (parted condition).parts (condition_part own condition ∷ [])),
       count_of-append (fails_at node) (over_rows (parted condition).parts rows) (over_rows (condition_part own condition ∷ []) rows),
     )

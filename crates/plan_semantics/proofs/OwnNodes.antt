@@ -1,13 +1,20 @@
 -- A plan whose parts have nodes of their own is orderly.
 use Rattle.std.proofs.Common.{◌≡◌, ℕ, ◌+◌, ◌≤◌, ◌==◌, Bool, true, false, List, [], ◌∷◌, ◌++◌, map, length, All, refl, ap, sym, subst, ◌∙◌, arith, cond, if◌then◌else◌}
-use Rattle.std.specs.Prelude.{◌||◌, not}
+use Rattle.std.specs.Prelude.{◌||◌, not, Option, Some, None}
 use Rattle.std.specs.List.{flat_map, AllZip, AllByRecursion, IsDistinct}
 use Rattle.std.proofs.lemmas.Map.Keys.{IsDistinct-head, IsDistinct-tail}
 use Rattle.std.proofs.lemmas.List.{append-nil}
 use Rattle.std.proofs.lemmas.List.Elements.{All-head, All-tail}
 use Rattle.esql_types.specs.declared.cause.Cause.{Cause}
 use Rattle.esql_types.specs.declared.cause.Failure.{Failure}
+use Rattle.esql_types.specs.declared.names.ColId.{ColId}
+use Rattle.esql_types.specs.declared.names.Column.{Column}
 use Rattle.esql_types.specs.declared.names.NodeId.{NodeId}
+use Rattle.esql_types.specs.declared.value.Kind.{Kind}
+use Rattle.esql_types.specs.declared.value.Kind.TheVariants.{Integer, Long, Boolean, Keyword, Null}
+use Rattle.esql_types.specs.declared.value.Value.{Value}
+use Rattle.esql_types.specs.declared.value.Value.TheVariants as value
+use Rattle.dissect_grok.specs.Groks.{GrokRead, grok_of, grok_columns, grok_takes}
 use Rattle.esql_plan.specs.declared.function.Function.{Function}
 use Rattle.esql_plan.specs.declared.typed.TypedExpr.{TypedExpr}
 use Rattle.esql_plan.specs.declared.step.Aggregate.{Aggregate}
@@ -20,11 +27,13 @@ use Rattle.esql_plan.proofs.Inductions.{typed_ind}
 use Rattle.plan_semantics.specs.Groups.{Entry, keys_of_groups, entries_of_key, aggregate_of, values_at}
 use Rattle.plan_semantics.specs.Stats.{entries_of}
 use Rattle.plan_semantics.specs.Steps.{step_rows}
-use Rattle.plan_semantics.specs.Parts.{FalliblePart, Parted, reached, parts_of_case, parts_of_coalesce, parts_of_all, parts_by, causes_by, own_part, parted, over_rows, condition_part, aggregate_parts, step_parts, parts_after, fails_at, count_of}
+use Rattle.plan_semantics.specs.Parts.{FalliblePart, Parted, reached, parts_of_case, parts_of_coalesce, parts_of_all, parts_by, causes_by, own_part, parted, over_rows, condition_part, grok_part, aggregate_parts, step_parts, parts_after, fails_at, count_of}
 use Rattle.plan_semantics.specs.WellFormed.{nodes_of, step_nodes, HaveOwnNodes}
 use Rattle.plan_semantics.proofs.PartedFolds.{parted_of_constant, parted_of_column, parted_of_call, nodes_of_constant, nodes_of_column, nodes_of_call}
 use Rattle.plan_semantics.proofs.Transposed.{count_of-append}
 use Rattle.plan_semantics.proofs.Keeps.{other_number}
+use Rattle.plan_semantics.specs.Tables.{CatalogHeld}
+use Rattle.plan_semantics.specs.Taken.{converted, converted_columns, taken_values, taken_if, grokked_by, grokked}
 
 -- the part fails at this node alone
 abbrev pub IsPartOf : {Row : Type 0} → NodeId → (Row → List Failure) → Type 0
@@ -133,10 +142,6 @@ aggregates_own place (aggregate ∷ aggregates) entries = (
 -- counts ---------------------------------------------------------------------------------------------------------------------------------
 
 module _ (node : NodeId) where
-  -- how often a node is among others
-  abbrev pub places : List NodeId → ℕ
-  places nodes = count_of (λ (one : NodeId). one.0 == node.0) nodes
-
   both_quiet : (xs ys : List Failure) → fails_at node xs ≡ false → fails_at node ys ≡ false → fails_at node (xs ++ ys) ≡ false
   both_quiet [] ys first second = second
   both_quiet (failure ∷ xs) ys first second =
@@ -146,6 +151,44 @@ module _ (node : NodeId) where
   rows_quiet : {Row : Type 0} (part : Row → List Failure) → ((row : Row) → fails_at node (part row) ≡ false) → (rows : List Row) → fails_at node (flat_map part rows) ≡ false
   rows_quiet part none [] = refl
   rows_quiet part none (row ∷ rows) = both_quiet (part row) (flat_map part rows) (none row) (rows_quiet part none rows)
+
+  -- GROK fails at the node of its step alone
+  converted_quiet : (own : NodeId) → own.0 == node.0 ≡ false → (kind : Kind) (texts : List (List ℕ)) → fails_at node (converted own kind texts).failures ≡ false
+  converted_quiet own elsewhere Integer texts = elsewhere_quiet own node _ elsewhere
+  converted_quiet own elsewhere Long texts = elsewhere_quiet own node _ elsewhere
+  converted_quiet own elsewhere Boolean texts = elsewhere_quiet own node _ elsewhere
+  converted_quiet own elsewhere Keyword texts = refl
+  converted_quiet own elsewhere Null texts = refl
+
+  columns_quiet : (own : NodeId) → own.0 == node.0 ≡ false → (columns : List Column) (listed : List (List (List ℕ)))
+      → fails_at node (taken_values (converted_columns own columns listed)).failures ≡ false
+  columns_quiet own elsewhere [] listed = refl
+  columns_quiet own elsewhere (column ∷ columns) [] = refl
+  columns_quiet own elsewhere (column ∷ columns) (texts ∷ listed) =
+      both_quiet (converted own column.kind texts).failures (taken_values (converted_columns own columns listed)).failures
+      (converted_quiet own elsewhere column.kind texts) (columns_quiet own elsewhere columns listed)
+
+  taken_quiet : (own : NodeId) → own.0 == node.0 ≡ false → (columns : List Column) (taken : Option (List (List (List ℕ)))) → fails_at node (taken_if own columns taken).failures ≡ false
+  taken_quiet own elsewhere columns None = refl
+  taken_quiet own elsewhere columns (Some listed) = columns_quiet own elsewhere columns listed
+
+  value_quiet : (own : NodeId) → own.0 == node.0 ≡ false → (read : Option GrokRead) (one : Value) → fails_at node (grokked_by own read one).failures ≡ false
+  value_quiet own elsewhere None one = refl
+  value_quiet own elsewhere (Some read) (value.Int number) = refl
+  value_quiet own elsewhere (Some read) (value.Long number) = refl
+  value_quiet own elsewhere (Some read) (value.Bool truth) = refl
+  value_quiet own elsewhere (Some read) (value.Text text) = taken_quiet own elsewhere (grok_columns read) (grok_takes read text)
+
+  pub grok_quiet : (own : NodeId) → own.0 == node.0 ≡ false → (pattern : List ℕ) (count : ℕ) (cell : List Value) → fails_at node (grokked own pattern count cell).failures ≡ false
+  grok_quiet own elsewhere pattern count cell = rows_quiet (λ (one : Value). (grokked_by own (grok_of pattern) one).failures) (value_quiet own elsewhere (grok_of pattern)) cell
+
+grok_own : (own : NodeId) (input : ColId) (pattern : List ℕ) (count : ℕ) → AreOf (own ∷ []) (grok_part own input pattern count ∷ [])
+grok_own own input pattern count = ((λ node elsewhere row. grok_quiet node own elsewhere pattern count (row input.0)), tt)
+
+module _ (node : NodeId) where
+  -- how often a node is among others
+  abbrev pub places : List NodeId → ℕ
+  places nodes = count_of (λ (one : NodeId). one.0 == node.0) nodes
 
   one_counts : (here fails : Bool) → (here ≡ false → fails ≡ false) → cond {A = ℕ} fails 1 0 ≤ cond {A = ℕ} here 1 0
   one_counts true true so = omega arith
@@ -160,7 +203,7 @@ module _ (node : NodeId) where
   parts_count (own ∷ nodes) (part ∷ parts) are rows =
       omega (
         arith,
-        one_counts (own.0 == node.0) (fails_at node (flat_map part rows)) (λ elsewhere. rows_quiet part (are.0 node elsewhere) rows),
+        one_counts (own.0 == node.0) (fails_at node (flat_map part rows)) (λ elsewhere. rows_quiet node part (are.0 node elsewhere) rows),
         parts_count nodes parts are.1 rows,
       )
 
@@ -175,19 +218,19 @@ module _ (node : NodeId) where
   step_count (Stats aggregates groups) rows =
       let entries : List Entry = entries_of aggregates groups rows in
       parts_count (map (λ (aggregate : Aggregate). aggregate.node) aggregates) (aggregate_parts 0 aggregates entries) (aggregates_own 0 aggregates entries) (keys_of_groups (length groups) entries)
-  step_count (Dissect own input cutter to) rows = omega arith
-  step_count (Grok own input cutter to) rows = omega arith
+  step_count (Dissect own input cutter pattern separator to) rows = omega arith
+  step_count (Grok own input cutter pattern to) rows = parts_count (own ∷ []) (grok_part own input pattern (length to) ∷ []) (grok_own own input pattern (length to)) rows
   step_count (Enrich policy on fields to) rows = omega arith
 
-  pub steps_count : (steps : List Step) (rows : List NumberedRow) → count_of (fails_at node) (parts_after steps rows) ≤ places (flat_map step_nodes steps)
-  steps_count [] rows = omega arith
-  steps_count (step ∷ steps) rows =
+  pub steps_count : (held : CatalogHeld) → (steps : List Step) (rows : List NumberedRow) → count_of (fails_at node) (parts_after held steps rows) ≤ places (flat_map step_nodes steps)
+  steps_count held [] rows = omega arith
+  steps_count held (step ∷ steps) rows =
       omega (
         arith,
-        count_of-append (fails_at node) (step_parts step rows) (parts_after steps (step_rows step rows)),
+        count_of-append (fails_at node) (step_parts step rows) (parts_after held steps (step_rows held step rows)),
         count_of-append (λ (one : NodeId). one.0 == node.0) (step_nodes step) (flat_map step_nodes steps),
         step_count step rows,
-        steps_count steps (step_rows step rows),
+        steps_count held steps (step_rows held step rows),
       )
 
 -- each number once ---------------------------------------------------------------------------------------------------------------------------
@@ -219,11 +262,11 @@ places_mapped : (node : NodeId) (nodes : List NodeId) → places node nodes ≡ 
 places_mapped node [] = refl
 places_mapped node (one ∷ nodes) = ap (λ n. cond {A = ℕ} (one.0 == node.0) 1 0 + n) (places_mapped node nodes)
 
-pub orderly_steps : (steps : List Step) → HaveOwnNodes steps → (rows : List NumberedRow) (node : NodeId) → count_of (fails_at node) (parts_after steps rows) ≤ 1
-orderly_steps steps own rows node =
+pub orderly_steps : (held : CatalogHeld) → (steps : List Step) → HaveOwnNodes steps → (rows : List NumberedRow) (node : NodeId) → count_of (fails_at node) (parts_after held steps rows) ≤ 1
+orderly_steps held steps own rows node =
     omega (
       arith,
-      steps_count node steps rows,
+      steps_count node held steps rows,
       places_mapped node (flat_map step_nodes steps),
       counted_once node.0 (map (λ (one : NodeId). one.0) (flat_map step_nodes steps)) own,
     )

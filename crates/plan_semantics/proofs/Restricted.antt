@@ -16,6 +16,7 @@ use Rattle.esql_plan.specs.declared.typed.TypedExpr.{TypedExpr}
 use Rattle.esql_plan.specs.declared.plan.OutColumn.{OutColumn}
 use Rattle.esql_plan.specs.declared.step.Aggregate.{Aggregate}
 use Rattle.esql_plan.specs.declared.step.GroupColumn.{GroupColumn}
+use Rattle.esql_plan.specs.declared.step.NewColumn.{NewColumn}
 use Rattle.esql_plan.specs.declared.step.PlanKey.{PlanKey}
 use Rattle.esql_plan.specs.declared.step.Step.{Step}
 use Rattle.esql_plan.specs.declared.step.Step.TheVariants.{Eval, Filter, Sort, TopN, Limit, Expand, Stats, Dissect, Grok, Enrich}
@@ -25,13 +26,14 @@ use Rattle.esql_plan.specs.Values.{Valued, NumberedRow, is_met, failures_at, cel
 use Rattle.esql_plan.specs.Fits.{ReadColumn, columns_read}
 use Rattle.esql_plan.proofs.TypedFolds.{map_map, columns_of_call}
 use Rattle.esql_plan.proofs.Inductions.{typed_ind}
-use Rattle.plan_semantics.specs.Tables.{with_cell}
+use Rattle.plan_semantics.specs.Tables.{CatalogHeld, with_cell}
 use Rattle.plan_semantics.specs.Orders.{order_of_cells, order_of_rows}
 use Rattle.plan_semantics.specs.Groups.{Entry, keys_of_groups, rows_of_groups, failures_of_groups}
 use Rattle.plan_semantics.specs.Stats.{input_cell, entry_of, entries_of, stats_row}
+use Rattle.plan_semantics.specs.Taken.{dissected, grokked, enriched, with_new}
 use Rattle.plan_semantics.specs.Steps.{is_true, failures_of_condition, expanded, step_gives, step_fails, step_rows, step_failures}
 use Rattle.plan_semantics.specs.Plans.{shown_row}
-use Rattle.plan_semantics.specs.Parts.{FalliblePart, Parted, reached, parts_of_case, parts_of_coalesce, parts_of_all, parts_by, causes_by, own_part, parted, condition_part, over_rows, aggregate_parts, step_parts}
+use Rattle.plan_semantics.specs.Parts.{FalliblePart, Parted, reached, parts_of_case, parts_of_coalesce, parts_of_all, parts_by, causes_by, own_part, parted, condition_part, grok_part, over_rows, aggregate_parts, step_parts}
 use Rattle.plan_semantics.specs.Used.{restrict, ReadsUsed, InputUsed, StatsReadUsed, StepReadsUsed, IsUsedOut, SameOn, SameAfter}
 use Rattle.plan_semantics.proofs.PartedFolds.{parted_of_constant, parted_of_column, parted_of_call}
 use Rattle.plan_semantics.proofs.Reading.{map_all, parts_read, one_used, value_restricted}
@@ -209,6 +211,27 @@ module _ (uses : ℕ → Bool) where
   expanded_cut to row [] = ap (λ (row : NumberedRow). row ∷ []) (put_cut to row [] [] refl)
   expanded_cut to row (value ∷ values) = values_cut to row (value ∷ values)
 
+  -- rows that are the same in used columns are so with one more cell, and with new columns
+  put_same : (id : ℕ) (cell : List Value) (this that : NumberedRow) → cut this ≡ cut that → cut (with_cell this id cell) ≡ cut (with_cell that id cell)
+  put_same id cell this that same =
+      sym (put_cut id this cell cell refl) ∙ ap (λ (row : NumberedRow). cut (with_cell row id cell)) same ∙ put_cut id that cell cell refl
+
+  new_same : (to : List NewColumn) (cells : List (List Value)) (this that : NumberedRow) → cut this ≡ cut that → cut (with_new this to cells) ≡ cut (with_new that to cells)
+  new_same [] cells this that same = same
+  new_same (new ∷ to) [] this that same = new_same to [] (with_cell this new.id.0 []) (with_cell that new.id.0 []) (put_same new.id.0 [] this that same)
+  new_same (new ∷ to) (cell ∷ cells) this that same =
+      new_same to cells (with_cell this new.id.0 cell) (with_cell that new.id.0 cell) (put_same new.id.0 cell this that same)
+
+  -- new columns that a used column gives
+  new_cut : (to : List NewColumn) (gives : List Value → List (List Value)) (input : ColId) → uses input.0 ≡ true → (row : NumberedRow)
+      → map cut (with_new (cut row) to (gives (cut row input.0)) ∷ []) ≡ map cut (with_new row to (gives (row input.0)) ∷ [])
+  new_cut to gives input is row =
+      ap (λ (cell : List Value). cut (with_new (cut row) to (gives cell)) ∷ []) (one_used (uses input.0) (row input.0) is)
+      ∙ ap (λ (row : NumberedRow). row ∷ []) (new_same to (gives (row input.0)) (cut row) row (cut_twice row))
+
+  grok_steady : (node : NodeId) (input : ColId) (pattern : List ℕ) (count : ℕ) → uses input.0 ≡ true → IsSteady (grok_part node input pattern count)
+  grok_steady node input pattern count is row = ap (λ (cell : List Value). (grokked node pattern count cell).failures) (one_used (uses input.0) (row input.0) is)
+
   order_cut : (keys : List PlanKey) → All (λ (key : PlanKey). uses key.id.0 ≡ true) keys → (this that : NumberedRow) → order_of_rows keys (cut this) (cut that) ≡ order_of_rows keys this that
   order_cut [] all this that = refl
   order_cut (key ∷ keys) all this that =
@@ -238,27 +261,30 @@ module _ (uses : ℕ → Bool) where
 
   -- steps ------------------------------------------------------------------------------------------------------------------------------------
 
-  rows_cut : (step : Step) → StepReadsUsed uses step → (rows : List NumberedRow) → map cut (step_rows step (map cut rows)) ≡ map cut (step_rows step rows)
-  rows_cut (Eval to expr) reads rows =
-      flat_upto (step_gives (Eval to expr)) cut cut
+  rows_cut : (held : CatalogHeld) → (step : Step) → StepReadsUsed uses step → (rows : List NumberedRow) → map cut (step_rows held step (map cut rows)) ≡ map cut (step_rows held step rows)
+  rows_cut held (Eval to expr) reads rows =
+      flat_upto (step_gives held (Eval to expr)) cut cut
       (λ row. ap (λ (row : NumberedRow). row ∷ []) (put_cut to.0 row (value_of_typed expr (cut row)).cell (value_of_typed expr row).cell (ap (λ (valued : Valued). valued.cell) (value_cut expr reads row)))) rows
-  rows_cut (Filter node condition) reads rows =
-      flat_upto (step_gives (Filter node condition)) cut cut
+  rows_cut held (Filter node condition) reads rows =
+      flat_upto (step_gives held (Filter node condition)) cut cut
       (λ row. kept_cut row (is_true (value_of_typed condition (cut row)).cell) (is_true (value_of_typed condition row).cell) (ap (λ (valued : Valued). is_true valued.cell) (value_cut condition reads row))) rows
-  rows_cut (Expand id to) reads rows =
-      flat_upto (step_gives (Expand id to)) cut cut
+  rows_cut held (Expand id to) reads rows =
+      flat_upto (step_gives held (Expand id to)) cut cut
       (λ row. ap (λ (values : List Value). map cut (expanded (cut row) to.0 values)) (one_used (uses id.0) (row id.0) reads) ∙ expanded_cut to.0 row (row id.0)) rows
-  rows_cut (Sort keys) reads rows = ap (map cut) (sorted_moved (order_of_rows keys) cut (order_cut keys reads) rows) ∙ rows_twice (sorted_by (order_of_rows keys) rows)
-  rows_cut (TopN keys count) reads rows =
+  rows_cut held (Sort keys) reads rows = ap (map cut) (sorted_moved (order_of_rows keys) cut (order_cut keys reads) rows) ∙ rows_twice (sorted_by (order_of_rows keys) rows)
+  rows_cut held (TopN keys count) reads rows =
       ap (λ (rows : List NumberedRow). map cut (take count rows)) (sorted_moved (order_of_rows keys) cut (order_cut keys reads) rows)
       ∙ ap (map cut) (take_map cut count (sorted_by (order_of_rows keys) rows))
       ∙ rows_twice (take count (sorted_by (order_of_rows keys) rows))
-  rows_cut (Limit count) reads rows = ap (map cut) (take_map cut count rows) ∙ rows_twice (take count rows)
-  rows_cut (Stats aggregates groups) reads rows =
+  rows_cut held (Limit count) reads rows = ap (map cut) (take_map cut count rows) ∙ rows_twice (take count rows)
+  rows_cut held (Stats aggregates groups) reads rows =
       ap (λ (entries : List Entry). map cut (map (stats_row aggregates groups) (rows_of_groups (length groups) aggregates entries))) (entries_cut aggregates groups reads rows)
-  rows_cut (Dissect node input cutter to) reads rows = rows_twice rows
-  rows_cut (Grok node input cutter to) reads rows = rows_twice rows
-  rows_cut (Enrich policy on fields to) reads rows = rows_twice rows
+  rows_cut held (Dissect node input cutter pattern separator to) reads rows =
+      flat_upto (step_gives held (Dissect node input cutter pattern separator to)) cut cut (new_cut to (λ (cell : List Value). (dissected pattern separator (length to) cell).cells) input reads) rows
+  rows_cut held (Grok node input cutter pattern to) reads rows =
+      flat_upto (step_gives held (Grok node input cutter pattern to)) cut cut (new_cut to (λ (cell : List Value). (grokked node pattern (length to) cell).cells) input reads) rows
+  rows_cut held (Enrich policy on fields to) reads rows =
+      flat_upto (step_gives held (Enrich policy on fields to)) cut cut (new_cut to (enriched held policy fields) on reads) rows
 
   fails_cut : (step : Step) → StepReadsUsed uses step → (row : NumberedRow) → step_fails step (cut row) ≡ step_fails step row
   fails_cut (Eval to expr) reads row = ap (λ (valued : Valued). valued.failures) (value_cut expr reads row)
@@ -268,8 +294,8 @@ module _ (uses : ℕ → Bool) where
   fails_cut (TopN keys count) reads row = refl
   fails_cut (Limit count) reads row = refl
   fails_cut (Stats aggregates groups) reads row = refl
-  fails_cut (Dissect node input cutter to) reads row = refl
-  fails_cut (Grok node input cutter to) reads row = refl
+  fails_cut (Dissect node input cutter pattern separator to) reads row = refl
+  fails_cut (Grok node input cutter pattern to) reads row = grok_steady node input pattern (length to) reads row
   fails_cut (Enrich policy on fields to) reads row = refl
 
   failures_cut : (step : Step) → StepReadsUsed uses step → (rows : List NumberedRow) → step_failures step (map cut rows) ≡ step_failures step rows
@@ -280,8 +306,8 @@ module _ (uses : ℕ → Bool) where
   failures_cut (TopN keys count) reads rows = flat_square (step_fails (TopN keys count)) cut (fails_cut (TopN keys count) reads) rows
   failures_cut (Limit count) reads rows = flat_square (step_fails (Limit count)) cut (fails_cut (Limit count) reads) rows
   failures_cut (Stats aggregates groups) reads rows = ap (failures_of_groups (length groups) aggregates) (entries_cut aggregates groups reads rows)
-  failures_cut (Dissect node input cutter to) reads rows = flat_square (step_fails (Dissect node input cutter to)) cut (fails_cut (Dissect node input cutter to) reads) rows
-  failures_cut (Grok node input cutter to) reads rows = flat_square (step_fails (Grok node input cutter to)) cut (fails_cut (Grok node input cutter to) reads) rows
+  failures_cut (Dissect node input cutter pattern separator to) reads rows = flat_square (step_fails (Dissect node input cutter pattern separator to)) cut (fails_cut (Dissect node input cutter pattern separator to) reads) rows
+  failures_cut (Grok node input cutter pattern to) reads rows = flat_square (step_fails (Grok node input cutter pattern to)) cut (fails_cut (Grok node input cutter pattern to) reads) rows
   failures_cut (Enrich policy on fields to) reads rows = flat_square (step_fails (Enrich policy on fields to)) cut (fails_cut (Enrich policy on fields to) reads) rows
 
   condition_steady : (node : NodeId) (condition : TypedExpr) → Reads condition → All IsSteady ((parted condition).parts ++ condition_part node condition ∷ [])
@@ -302,17 +328,19 @@ module _ (uses : ℕ → Bool) where
   parts_cut (Limit count) reads rows = refl
   parts_cut (Stats aggregates groups) reads rows =
       ap (λ (entries : List Entry). over_rows (aggregate_parts 0 aggregates entries) (keys_of_groups (length groups) entries)) (entries_cut aggregates groups reads rows)
-  parts_cut (Dissect node input cutter to) reads rows = refl
-  parts_cut (Grok node input cutter to) reads rows = refl
+  parts_cut (Dissect node input cutter pattern separator to) reads rows = refl
+  parts_cut (Grok node input cutter pattern to) reads rows =
+      let part : FalliblePart = grok_part node input pattern (length to) in
+      over_cut (part ∷ []) (All-cons IsSteady part [] (grok_steady node input pattern (length to) reads) (All-nil IsSteady)) rows
   parts_cut (Enrich policy on fields to) reads rows = refl
 
   -- what steps that read used columns alone make of rows that are the same in these is the same in these
-  pub same_after : (steps : List Step) → All (StepReadsUsed uses) steps → (xs ys : List NumberedRow) → SameOn uses xs ys → SameAfter uses steps xs ys
-  same_after [] reads xs ys same = record { rows = same; failures = refl; parts = refl }
-  same_after (step ∷ steps) reads xs ys same =
+  pub same_after : (held : CatalogHeld) → (steps : List Step) → All (StepReadsUsed uses) steps → (xs ys : List NumberedRow) → SameOn uses xs ys → SameAfter held uses steps xs ys
+  same_after held [] reads xs ys same = record { rows = same; failures = refl; parts = refl }
+  same_after held (step ∷ steps) reads xs ys same =
       let own = All-head (StepReadsUsed uses) step steps reads in
-      let next : SameOn uses (step_rows step xs) (step_rows step ys) = sym (rows_cut step own xs) ∙ ap (λ (rows : List NumberedRow). map cut (step_rows step rows)) same ∙ rows_cut step own ys in
-      let rest = same_after steps (All-tail (StepReadsUsed uses) step steps reads) (step_rows step xs) (step_rows step ys) next in
+      let next : SameOn uses (step_rows held step xs) (step_rows held step ys) = sym (rows_cut held step own xs) ∙ ap (λ (rows : List NumberedRow). map cut (step_rows held step rows)) same ∙ rows_cut held step own ys in
+      let rest = same_after held steps (All-tail (StepReadsUsed uses) step steps reads) (step_rows held step xs) (step_rows held step ys) next in
       let failures : step_failures step xs ≡ step_failures step ys =
       sym (failures_cut step own xs) ∙ ap (step_failures step) same ∙ failures_cut step own ys in
       let parts : step_parts step xs ≡ step_parts step ys = sym (parts_cut step own xs) ∙ ap (step_parts step) same ∙ parts_cut step own ys in

@@ -11,7 +11,7 @@ use Rattle.esql_plan.specs.declared.step.PlanKey.{PlanKey}
 use Rattle.esql_plan.specs.declared.step.Step.{Step}
 use Rattle.esql_plan.specs.declared.step.Step.TheVariants.{Eval, Filter, Sort, TopN, Limit, Expand, Stats, Dissect, Grok, Enrich}
 use Rattle.esql_plan.specs.Values.{NumberedRow, value_of_typed}
-use Rattle.plan_semantics.specs.Tables.{with_cell}
+use Rattle.plan_semantics.specs.Tables.{CatalogHeld, with_cell}
 use Rattle.plan_semantics.specs.Steps.{is_true, is_stats, step_fails, step_rows, step_failures}
 
 -- the items that pass a test, each as a list of one
@@ -21,13 +21,13 @@ filtered_singly {Item} test (item ∷ items) =
     elim (test item) as (λ b. (if b then item ∷ [] else []) ++ flat_map (λ (item : Item). if test item then item ∷ [] else []) items ≡ (if b then item ∷ filter test items else filter test items))
     [ true ↦ ap (λ (rest : List Item). item ∷ rest) (filtered_singly test items) | false ↦ filtered_singly test items ]
 
-pub step_rows-eval : (to : ColId) (expr : TypedExpr) (rows : List NumberedRow)
-    → step_rows (Eval to expr) rows ≡ map (λ (row : NumberedRow). with_cell row to.0 (value_of_typed expr row).cell) rows
-step_rows-eval to expr rows = flat_map_single (λ (row : NumberedRow). with_cell row to.0 (value_of_typed expr row).cell) rows
+pub step_rows-eval : (held : CatalogHeld) → (to : ColId) (expr : TypedExpr) (rows : List NumberedRow)
+    → step_rows held (Eval to expr) rows ≡ map (λ (row : NumberedRow). with_cell row to.0 (value_of_typed expr row).cell) rows
+step_rows-eval held to expr rows = flat_map_single (λ (row : NumberedRow). with_cell row to.0 (value_of_typed expr row).cell) rows
 
-pub step_rows-filter : (node : NodeId) (condition : TypedExpr) (rows : List NumberedRow)
-    → step_rows (Filter node condition) rows ≡ filter (λ (row : NumberedRow). is_true (value_of_typed condition row).cell) rows
-step_rows-filter node condition rows = filtered_singly (λ (row : NumberedRow). is_true (value_of_typed condition row).cell) rows
+pub step_rows-filter : (held : CatalogHeld) → (node : NodeId) (condition : TypedExpr) (rows : List NumberedRow)
+    → step_rows held (Filter node condition) rows ≡ filter (λ (row : NumberedRow). is_true (value_of_typed condition row).cell) rows
+step_rows-filter held node condition rows = filtered_singly (λ (row : NumberedRow). is_true (value_of_typed condition row).cell) rows
 
 -- no row fails
 pub none_of_any : {Row : Type 0} (rows : List Row) → flat_map (λ (row : Row). let none : List Failure = [] in none) rows ≡ []
@@ -55,8 +55,8 @@ step_failures-rows (Sort keys) is rows = refl
 step_failures-rows (TopN keys count) is rows = refl
 step_failures-rows (Limit count) is rows = refl
 step_failures-rows (Stats aggregates groups) is rows = absurd cc
-step_failures-rows (Dissect node input cutter to) is rows = refl
-step_failures-rows (Grok node input cutter to) is rows = refl
+step_failures-rows (Dissect node input cutter pattern separator to) is rows = refl
+step_failures-rows (Grok node input cutter pattern to) is rows = refl
 step_failures-rows (Enrich policy on fields to) is rows = refl
 
 pub step_failures-append : (step : Step) → is_stats step ≡ false → (these those : List NumberedRow) → step_failures step (these ++ those) ≡ step_failures step these ++ step_failures step those

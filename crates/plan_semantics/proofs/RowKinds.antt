@@ -125,19 +125,23 @@ shown_kinds made row has (out ∷ output) all =
 
 -- sources -------------------------------------------------------------------------------------------------------------------------------------
 
+-- the kind that a table gives a name is this
+abbrev pub NamesKind : List NamedColumn → List ℕ → Kind → Type 0
+NamesKind columns name kind = IfSome (kind_named columns name) (λ given. given ≡ kind)
+
 -- the kind that a table gives a name is the scan's
 abbrev GivesScanKind : List NamedColumn → ScanColumn → Type 0
-GivesScanKind columns scanned = IfSome (kind_named columns scanned.name) (λ kind. kind ≡ scanned.kind)
+GivesScanKind columns scanned = NamesKind columns scanned.name scanned.kind
 
-named_has : (columns : List NamedColumn) (cells : List (List Value)) (scanned : ScanColumn) → AllZip CellFits columns cells → GivesScanKind columns scanned
-    → Has scanned.kind (cell_named columns cells scanned.name)
-named_has [] cells scanned fits gives = refl
-named_has (column ∷ columns) [] scanned fits gives = refl
-named_has (column ∷ columns) (cell ∷ cells) scanned fits gives =
-    elim (bytes_eq column.name scanned.name) as (λ b. IfSome (if b then Some column.kind else kind_named columns scanned.name) (λ kind. kind ≡ scanned.kind)
-    → (GivesScanKind columns scanned → Has scanned.kind (cell_named columns cells scanned.name))
-    → Has scanned.kind (if b then cell else cell_named columns cells scanned.name))
-    [ true ↦ λ same rest. subst (λ kind. Has kind cell) same fits.0 | false ↦ λ later rest. rest later ] gives (named_has columns cells scanned fits.1)
+pub named_has : (columns : List NamedColumn) (cells : List (List Value)) (name : List ℕ) (kind : Kind) → AllZip CellFits columns cells → NamesKind columns name kind
+    → Has kind (cell_named columns cells name)
+named_has [] cells name kind fits gives = refl
+named_has (column ∷ columns) [] name kind fits gives = refl
+named_has (column ∷ columns) (cell ∷ cells) name kind fits gives =
+    elim (bytes_eq column.name name) as (λ b. IfSome (if b then Some column.kind else kind_named columns name) (λ given. given ≡ kind)
+    → (NamesKind columns name kind → Has kind (cell_named columns cells name))
+    → Has kind (if b then cell else cell_named columns cells name))
+    [ true ↦ λ same rest. subst (λ kind. Has kind cell) same fits.0 | false ↦ λ later rest. rest later ] gives (named_has columns cells name kind fits.1)
 
 abbrev scan_made : List ScanColumn → List MadeColumn
 scan_made scanned = map (λ (column : ScanColumn). made_as column.to column.kind) scanned
@@ -157,7 +161,7 @@ scan_has columns cells fits (one ∷ more) once gives =
     let ids : List ℕ = map (λ (column : ScanColumn). column.to.0) more in
     has_new (scan_made more) one.to one.kind (scan_row more columns cells) (cell_named columns cells one.name)
     (new_among one.to.0 more (IsDistinct-head same_number one.to.0 ids once))
-    (named_has columns cells one fits (All-head (GivesScanKind columns) one more gives))
+    (named_has columns cells one.name one.kind fits (All-head (GivesScanKind columns) one more gives))
     (scan_has columns cells fits more (IsDistinct-tail same_number one.to.0 ids once) (All-tail (GivesScanKind columns) one more gives))
 
 rows_scanned : (table : TableHeld) (scanned : List ScanColumn) → IsDistinct same_number (map (λ (column : ScanColumn). column.to.0) scanned) → All (GivesScanKind table.shape.columns) scanned
@@ -181,7 +185,7 @@ scanned_of : (scanned : List ScanColumn) → IsDistinct same_number (map (λ (co
 scanned_of scanned once None table gives = All-nil (RowHas (scan_made scanned))
 scanned_of scanned once (Some table) is gives = rows_scanned table scanned once gives table.rows is
 
-found_table : (tables : List TableHeld) (number : ℕ) → All IsTable tables → (found : Option TableHeld) → slice_get tables number ≡ found → IfSome found IsTable
+pub found_table : (tables : List TableHeld) (number : ℕ) → All IsTable tables → (found : Option TableHeld) → slice_get tables number ≡ found → IfSome found IsTable
 found_table tables number all None is = tt
 found_table tables number all (Some table) is = all_at IsTable tables number table is all
 

@@ -8,16 +8,17 @@ use Rattle.esql_plan.specs.declared.step.Aggregate.{Aggregate}
 use Rattle.esql_plan.specs.declared.step.Step.TheVariants.{Stats}
 use Rattle.esql_plan.specs.Values.{NumberedRow}
 use Rattle.plan_semantics.specs.Groups.{same_key, Key, keys_of_cells, Entry, keys_of_entry, keys_of_groups, entries_of_key}
+use Rattle.plan_semantics.specs.Tables.{CatalogHeld}
 use Rattle.plan_semantics.specs.Steps.{step_rows}
 
 -- without columns to group by there is one row, over no rows too
 abbrev pub OneGroupWithoutColumns : Type 0
-OneGroupWithoutColumns = (aggregates : List Aggregate) (rows : List NumberedRow) → length (step_rows (Stats aggregates []) rows) ≡ 1
+OneGroupWithoutColumns = (held : CatalogHeld) (aggregates : List Aggregate) (rows : List NumberedRow) → length (step_rows held (Stats aggregates []) rows) ≡ 1
 
 -- without columns to group by, COUNT(*) is the number of all rows, at most the greatest long
 abbrev pub AllRowsAreCounted : Type 0
-AllRowsAreCounted = (count : Aggregate) (rows : List NumberedRow) → count.function ≡ CountRows
-    → map (λ (row : NumberedRow). row count.to.0) (step_rows (Stats (count ∷ []) []) rows) ≡ (Long (pos (min (length rows) 9223372036854775807)) ∷ []) ∷ []
+AllRowsAreCounted = (held : CatalogHeld) (count : Aggregate) (rows : List NumberedRow) → count.function ≡ CountRows
+    → map (λ (row : NumberedRow). row count.to.0) (step_rows held (Stats (count ∷ []) []) rows) ≡ (Long (pos (min (length rows) 9223372036854775807)) ∷ []) ∷ []
 
 -- cells of one value each have one key, which is themselves
 abbrev pub OneValueOneKey : Type 0

@@ -3,6 +3,7 @@ pub mod Orders
 pub mod Groups
 pub mod Aggregates
 pub mod Stats
+pub mod Taken
 pub mod Steps
 pub mod Agrees
 pub mod Plans

@@ -1,10 +1,11 @@
--- The parts of a plan that can fail: the functions in its expressions, its conditions as far as they have several values, and its
--- aggregates.
+-- The parts of a plan that can fail: the functions in its expressions, its conditions as far as they have several values, its
+-- aggregates, and the conversions of a GROK.
 use Rattle.std.specs.Prelude.{ℕ, ◌+◌, ◌≤◌, ◌==◌, Bool, not, List, [], ◌∷◌, ◌++◌, map, length, if◌then◌else◌}
 use Rattle.std.specs.List.{flat_map, list_any}
 use Rattle.esql_types.specs.declared.value.Value.{Value}
 use Rattle.esql_types.specs.declared.cause.Cause.{Cause}
 use Rattle.esql_types.specs.declared.cause.Failure.{Failure}
+use Rattle.esql_types.specs.declared.names.ColId.{ColId}
 use Rattle.esql_types.specs.declared.names.NodeId.{NodeId}
 use Rattle.esql_plan.specs.declared.function.Function.{Function}
 use Rattle.esql_plan.specs.declared.typed.TypedExpr.{TypedExpr}
@@ -18,9 +19,10 @@ use Rattle.esql_plan.specs.declared.step.Step.TheVariants.{Eval, Filter, Sort, T
 use Rattle.esql_plan.specs.Rules.{Rule, singles, each, list_and_singles, lists, tests, logic, membership, conditions, alternatives, given_singles, given_each, given_list, given_lists, given_logic, given_membership, first_cell, later_cells, multi_of, truth_in, is_null}
 use Rattle.esql_plan.specs.Functions.{rule_of}
 use Rattle.esql_plan.specs.Values.{Valued, NumberedRow, silent, failures_at, cells_of, applied, is_met, value_of_typed}
-use Rattle.plan_semantics.specs.Tables.{TableHeld, source_rows}
+use Rattle.plan_semantics.specs.Tables.{CatalogHeld, source_rows}
 use Rattle.plan_semantics.specs.Groups.{Key, Entry, keys_of_groups, entries_of_key, aggregate_of, values_at}
 use Rattle.plan_semantics.specs.Stats.{entries_of}
+use Rattle.plan_semantics.specs.Taken.{grokked}
 use Rattle.plan_semantics.specs.Steps.{step_rows}
 
 -- a part that can fail: what it fails with on a row
@@ -120,6 +122,10 @@ over_rows parts rows = map (λ part. flat_map part rows) parts
 abbrev pub condition_part : NodeId → TypedExpr → FalliblePart
 condition_part node condition row = failures_at node (multi_of (value_of_typed condition row).cell)
 
+-- all columns of a GROK are one part
+abbrev pub grok_part : NodeId → ColId → List ℕ → ℕ → FalliblePart
+grok_part node input pattern count row = (grokked node pattern count (row input.0)).failures
+
 -- what an aggregate of the inputs at a place fails with in the group of a key
 abbrev pub aggregate_part : ℕ → Aggregate → List Entry → Key → List Failure
 aggregate_part place aggregate entries key =
@@ -137,7 +143,7 @@ stats_parts aggregates groups rows =
     let entries : List Entry = entries_of aggregates groups rows in
     over_rows (aggregate_parts 0 aggregates entries) (keys_of_groups (length groups) entries)
 
--- what each part of a step fails with over rows; no plan with one of the last three is run so far
+-- what each part of a step fails with over rows
 abbrev pub step_parts : Step → List NumberedRow → List (List Failure)
 step_parts (Eval to expr) rows = over_rows (parted expr).parts rows
 step_parts (Filter node condition) rows = over_rows ((parted condition).parts ++ condition_part node condition ∷ []) rows
@@ -146,18 +152,18 @@ step_parts (Sort keys) rows = []
 step_parts (TopN keys count) rows = []
 step_parts (Limit count) rows = []
 step_parts (Stats aggregates groups) rows = stats_parts aggregates groups rows
-step_parts (Dissect node input cutter to) rows = []
-step_parts (Grok node input cutter to) rows = []
+step_parts (Dissect node input cutter pattern separator to) rows = []
+step_parts (Grok node input cutter pattern to) rows = over_rows (grok_part node input pattern (length to) ∷ []) rows
 step_parts (Enrich policy on fields to) rows = []
 
 -- what each part of steps fails with over all rows that come to it
-abbrev pub parts_after : List Step → List NumberedRow → List (List Failure)
-parts_after [] rows = []
-parts_after (step ∷ steps) rows = step_parts step rows ++ parts_after steps (step_rows step rows)
+abbrev pub parts_after : CatalogHeld → List Step → List NumberedRow → List (List Failure)
+parts_after held [] rows = []
+parts_after held (step ∷ steps) rows = step_parts step rows ++ parts_after held steps (step_rows held step rows)
 
--- what each part of a plan fails with over tables
-abbrev pub plan_parts : Plan → List TableHeld → List (List Failure)
-plan_parts plan tables = parts_after plan.steps (source_rows tables plan.source)
+-- what each part of a plan fails with over a catalog whose tables have their rows
+abbrev pub plan_parts : Plan → CatalogHeld → List (List Failure)
+plan_parts plan held = parts_after held plan.steps (source_rows held.tables plan.source)
 
 -- Orderly ------------------------------------------------------------------------------------------------------------------------
 
@@ -171,12 +177,12 @@ count_of test [] = 0
 count_of test (item ∷ items) = (if test item then 1 else 0) + count_of test items
 
 -- each node fails in one part of the steps at most
-abbrev pub AreOrderly : List Step → List NumberedRow → Type 0
-AreOrderly steps rows = (node : NodeId) → count_of (fails_at node) (parts_after steps rows) ≤ 1
+abbrev pub AreOrderly : CatalogHeld → List Step → List NumberedRow → Type 0
+AreOrderly held steps rows = (node : NodeId) → count_of (fails_at node) (parts_after held steps rows) ≤ 1
 
 -- each node fails in one part of the plan at most
-abbrev pub IsOrderly : Plan → List TableHeld → Type 0
-IsOrderly plan tables = AreOrderly plan.steps (source_rows tables plan.source)
+abbrev pub IsOrderly : Plan → CatalogHeld → Type 0
+IsOrderly plan held = AreOrderly held plan.steps (source_rows held.tables plan.source)
 
 -- each node fails in one part of the expression at most, over these rows
 abbrev pub IsExprOrderly : TypedExpr → List NumberedRow → Type 0

@@ -4,6 +4,8 @@ use Rattle.std.specs.List.{flat_map}
 use Rattle.std.specs.Str.{bytes_eq}
 use Rattle.esql_types.specs.declared.value.Value.{Value}
 use Rattle.esql_types.specs.declared.names.Column.{Column}
+use Rattle.esql_plan.specs.declared.catalog.Catalog.{Catalog}
+use Rattle.esql_plan.specs.declared.catalog.PolicyShape.{PolicyShape}
 use Rattle.esql_plan.specs.declared.catalog.TableShape.{TableShape}
 use Rattle.esql_plan.specs.declared.plan.PlanSource.{PlanSource}
 use Rattle.esql_plan.specs.declared.plan.PlanSource.TheVariants.{OneRow, Scan}
@@ -18,6 +20,15 @@ pub record TableHeld : Type 0 where
 -- the tables of the catalog, without their rows
 abbrev pub catalog_tables : List TableHeld → List TableShape
 catalog_tables tables = map (λ table. table.shape) tables
+
+-- a catalog whose tables have their rows
+pub record CatalogHeld : Type 0 where
+  pub tables : List TableHeld
+  pub policies : List PolicyShape
+
+-- the catalog, without the rows of its tables
+abbrev pub catalog_held : CatalogHeld → Catalog
+catalog_held held = record { tables = catalog_tables held.tables; policies = held.policies }
 
 -- the cell of a name in a row of these columns, null where there is no such column
 abbrev pub cell_named : List Column → List (List Value) → List ℕ → List Value

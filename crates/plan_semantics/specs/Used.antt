@@ -9,6 +9,7 @@ use Rattle.esql_plan.specs.declared.step.Step.{Step}
 use Rattle.esql_plan.specs.declared.step.Step.TheVariants.{Eval, Filter, Sort, TopN, Limit, Expand, Stats, Dissect, Grok, Enrich}
 use Rattle.esql_plan.specs.Values.{NumberedRow}
 use Rattle.esql_plan.specs.Fits.{columns_read}
+use Rattle.plan_semantics.specs.Tables.{CatalogHeld}
 use Rattle.plan_semantics.specs.Steps.{rows_after, failures_after}
 use Rattle.plan_semantics.specs.Parts.{parts_after}
 
@@ -30,7 +31,7 @@ pub record StatsReadUsed (uses : ℕ → Bool) (aggregates : List Aggregate) (gr
   pub inputs : All (λ (aggregate : Aggregate). InputUsed uses aggregate.input) aggregates
   pub keys : All (λ (group : GroupColumn). uses group.id.0 ≡ true) groups
 
--- a step reads columns that are used alone; no plan with one of the last three is run so far
+-- a step reads columns that are used alone
 abbrev pub StepReadsUsed : (ℕ → Bool) → Step → Type 0
 StepReadsUsed uses (Eval to expr) = ReadsUsed uses expr
 StepReadsUsed uses (Filter node condition) = ReadsUsed uses condition
@@ -39,9 +40,9 @@ StepReadsUsed uses (Sort keys) = All (λ key. uses key.id.0 ≡ true) keys
 StepReadsUsed uses (TopN keys count) = All (λ key. uses key.id.0 ≡ true) keys
 StepReadsUsed uses (Limit count) = Unit {0}
 StepReadsUsed uses (Stats aggregates groups) = StatsReadUsed uses aggregates groups
-StepReadsUsed uses (Dissect node input cutter to) = Unit {0}
-StepReadsUsed uses (Grok node input cutter to) = Unit {0}
-StepReadsUsed uses (Enrich policy on fields to) = Unit {0}
+StepReadsUsed uses (Dissect node input cutter pattern separator to) = uses input.0 ≡ true
+StepReadsUsed uses (Grok node input cutter pattern to) = uses input.0 ≡ true
+StepReadsUsed uses (Enrich policy on fields to) = uses on.0 ≡ true
 
 -- the column is used
 abbrev pub IsUsedOut : (ℕ → Bool) → OutColumn → Type 0
@@ -52,7 +53,7 @@ abbrev pub SameOn : (ℕ → Bool) → List NumberedRow → List NumberedRow →
 SameOn uses these those = map (restrict uses) these ≡ map (restrict uses) those
 
 -- steps give the same of these rows as of those, as far as columns are used, and fail in the same way
-pub record SameAfter (uses : ℕ → Bool) (steps : List Step) (these those : List NumberedRow) : Type 0 where
-  pub rows : SameOn uses (rows_after steps these) (rows_after steps those)
-  pub failures : failures_after steps these ≡ failures_after steps those
-  pub parts : parts_after steps these ≡ parts_after steps those
+pub record SameAfter (held : CatalogHeld) (uses : ℕ → Bool) (steps : List Step) (these those : List NumberedRow) : Type 0 where
+  pub rows : SameOn uses (rows_after held steps these) (rows_after held steps those)
+  pub failures : failures_after held steps these ≡ failures_after held steps those
+  pub parts : parts_after held steps these ≡ parts_after held steps those

@@ -1,6 +1,6 @@
 //! Laws of plans.
 
-ghost use Rattle.plan_semantics.specs.Laws.{RowsSplit, FailuresSplit, ReadsItsColumns, StepsReadTheirColumns, StepsMakeOnce, StepsKeep, EachAgrees, AgreeBack, AgreeThrough, EqualAgree, FailsByRows, FailsByParts, PlanFailsByParts, OwnNodesAreOrderly, ValuesHaveTheirKind, RowsKeepKinds, PlansFitRows, PlansShowKinds, ValuesFailBelow, PlansFailBelow};
+ghost use Rattle.plan_semantics.specs.Laws.{RowsSplit, FailuresSplit, ReadsItsColumns, StepsReadTheirColumns, StepsMakeOnce, StepsKeep, EachAgrees, AgreeBack, AgreeThrough, EqualAgree, FailsByRows, FailsByParts, PlanFailsByParts, OwnNodesAreOrderly, ValuesHaveTheirKind, RowsKeepKinds, PlansFitRows, PlansShowKinds, ValuesFailBelow, PlansFailBelow, NewColumnsHold, NullIsCutToNull, GrokHasKinds, EmptyPolicyGivesNull, NullMatchesNothing};
 
 /// A law: the rows after steps and others behind them are the rows after the others of the rows after the first.
 pub fn rows_split()
@@ -102,4 +102,30 @@ pub fn values_fail_below()
 /// A law: a well formed plan fails at nodes below its number alone, on all tables.
 pub fn plans_fail_below()
     ensures { PlansFailBelow }
+{}
+
+/// A law: a row with cells in new columns of different numbers has each in its column, and in every other column what it
+/// had.
+pub fn new_columns_hold()
+    ensures { NewColumnsHold }
+{}
+
+/// A law: a DISSECT or GROK of null gives null in each of its columns, and fails in nothing.
+pub fn null_is_cut_to_null()
+    ensures { NullIsCutToNull }
+{}
+
+/// A law: what a GROK takes out of a cell has the kinds of its pattern's columns.
+pub fn groks_have_their_kinds()
+    ensures { GrokHasKinds }
+{}
+
+/// A law: an ENRICH by a policy whose tables have no rows gives null in each of its columns.
+pub fn empty_policies_give_null()
+    ensures { EmptyPolicyGivesNull }
+{}
+
+/// A law: an ENRICH by null gives null in each of its columns.
+pub fn null_matches_nothing()
+    ensures { NullMatchesNothing }
 {}
