@@ -1,6 +1,7 @@
 pub mod ExprInduction
 pub mod CallsOpened
 pub mod ExprPlaces
+pub mod AppendedPlaces
 pub mod ShapePlaces
 pub mod Readings
 pub mod Valued

@@ -141,7 +141,7 @@ below-renamed next these visible below = All-renamed_by (IsBelow next) visible_a
 -- MV_EXPAND -----------------------------------------------------------------------------------------------------------------
 
 -- the cell of a name is that of its column, or null
-found_cell : (visible : List OutColumn) (name : List ℕ) (column : OutColumn) (row : NumberedRow) → visible_named visible name ≡ Some column → cell_at (named_row visible row) name ≡ row column.id.0
+pub found_cell : (visible : List OutColumn) (name : List ℕ) (column : OutColumn) (row : NumberedRow) → visible_named visible name ≡ Some column → cell_at (named_row visible row) name ≡ row column.id.0
 found_cell [] name column row is = absurd cc
 found_cell (first ∷ visible) name column row is =
     elim (bytes_eq first.name name) as (λ same. cond same (Some first) (visible_named visible name) ≡ Some column → cond same (row first.id.0) (cell_at (named_row visible row) name) ≡ row column.id.0)

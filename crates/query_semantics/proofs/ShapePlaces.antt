@@ -40,6 +40,7 @@ use Rattle.query_semantics.specs.Calls.{AggregateCall, calls_of, outside_columns
 use Rattle.query_semantics.specs.StatsShapes.{field_scope, outside_scope, FieldKinds, kind_of_condition, kinds_of_field, kinds_of_fields, kinds_of_groups, aggregate_rule, condition_rule, first_broken, field_rule, fields_rule, unless_broken, shape_of_stats}
 use Rattle.query_semantics.specs.Shapes.{Context, scope_over, shape_of_field, shape_of_fields, shape_of_condition, unless_unmet, unless_missing, shape_of_keys, shape_of_expand, shape_of_kind, unless_empty, shape_of_command, shape_of_commands, shape_of_source, shape_in}
 use Rattle.query_semantics.specs.Places.{BrokenFits}
+use Rattle.query_semantics.proofs.AppendedPlaces.{dissect_fits, grok_fits, enrich_fits}
 use Rattle.query_semantics.proofs.CallsOpened.{columns_fit}
 use Rattle.query_semantics.proofs.ExprPlaces.{then_fits, either_fits, column_fits, kind_fits}
 
@@ -181,9 +182,9 @@ kind_of_command_fits context (Sort keys) columns fits = keys_fit context keys co
 kind_of_command_fits context (Limit count) columns fits = tt
 kind_of_command_fits context (Expand column) columns fits = expand_fits context column columns fits
 kind_of_command_fits context (Stats fields groups) columns fits = stats_fit context.text context.accepts columns fields groups fits.0 fits.1
-kind_of_command_fits context (Dissect input pattern separator) columns fits = tt
-kind_of_command_fits context (Grok input pattern) columns fits = tt
-kind_of_command_fits context (Enrich policy on fields) columns fits = tt
+kind_of_command_fits context (Dissect input pattern separator) columns fits = dissect_fits context.text context.accepts columns input pattern separator fits.0 fits.1
+kind_of_command_fits context (Grok input pattern) columns fits = grok_fits context.text context.accepts columns input pattern fits.0 fits.1
+kind_of_command_fits context (Enrich policy on fields) columns fits = enrich_fits context.text context.accepts columns context.catalog.policies policy on fields fits.0 fits.1 fits.2
 kind_of_command_fits context (Join table on) columns fits = tt
 
 empty_fits : (text : List ℕ) (span : Span) (columns : List Column) → SpanFits text span → BrokenFits text (unless_empty span columns)

@@ -19,11 +19,13 @@ use Rattle.esql_ast.specs.declared.query.CommandKind.TheVariants.{Filter, Eval, 
 use Rattle.esql_ast.specs.NameRules.{keep_places, drop_places, at_places, renamings, renamed_by}
 use Rattle.function_rules.specs.Lists.{sorted_by}
 use Rattle.plan_semantics.specs.Orders.{order_of_cells}
+use Rattle.plan_semantics.specs.Tables.{CatalogHeld}
 use Rattle.plan_semantics.specs.Steps.{is_true}
 use Rattle.row_semantics.specs.declared.row.NamedCell.{NamedCell}
 use Rattle.row_semantics.specs.Rows.{Row, cell_at, put}
 use Rattle.row_semantics.specs.Fields.{name_of_field}
 use Rattle.query_semantics.specs.RowValues.{value_in_row, failures_of_expr, failures_of_rows}
+use Rattle.query_semantics.specs.Appended.{rows_of_dissect, rows_of_grok, failures_of_grok, rows_of_enrich}
 use Rattle.query_semantics.specs.Stats.{rows_of_stats, failures_of_stats}
 
 -- the names of a row's cells
@@ -102,23 +104,23 @@ expanded_row name row = expanded_at name row (cell_at row name)
 
 -- commands ---------------------------------------------------------------------------------------------------------------
 
--- The rows after a command. No query with a command that is not built so far is answered: those leave the rows as they are.
-abbrev pub rows_of_kind : List ℕ → CommandKind → List Row → List Row
-rows_of_kind text (Filter condition) rows = rows_of_condition condition rows
-rows_of_kind text (Eval fields) rows = rows_of_fields text fields rows
-rows_of_kind text (Keep patterns) rows = map (kept_of_row patterns) rows
-rows_of_kind text (Drop patterns) rows = map (left_of_row patterns) rows
-rows_of_kind text (Rename pairs) rows = map (renamed_row pairs) rows
-rows_of_kind text (Sort keys) rows = rows_of_keys keys rows
-rows_of_kind text (Limit count) rows = take count rows
-rows_of_kind text (Expand column) rows = flat_map (expanded_row column.name) rows
-rows_of_kind text (Stats fields groups) rows = rows_of_stats text fields groups rows
-rows_of_kind text (Dissect input pattern separator) rows = rows
-rows_of_kind text (Grok input pattern) rows = rows
-rows_of_kind text (Enrich policy on fields) rows = rows
-rows_of_kind text (Join table on) rows = rows
+-- The rows after a command. No query with LOOKUP JOIN is answered so far: it leaves the rows as they are.
+abbrev pub rows_of_kind : List ℕ → CatalogHeld → NodeId → CommandKind → List Row → List Row
+rows_of_kind text held node (Filter condition) rows = rows_of_condition condition rows
+rows_of_kind text held node (Eval fields) rows = rows_of_fields text fields rows
+rows_of_kind text held node (Keep patterns) rows = map (kept_of_row patterns) rows
+rows_of_kind text held node (Drop patterns) rows = map (left_of_row patterns) rows
+rows_of_kind text held node (Rename pairs) rows = map (renamed_row pairs) rows
+rows_of_kind text held node (Sort keys) rows = rows_of_keys keys rows
+rows_of_kind text held node (Limit count) rows = take count rows
+rows_of_kind text held node (Expand column) rows = flat_map (expanded_row column.name) rows
+rows_of_kind text held node (Stats fields groups) rows = rows_of_stats text fields groups rows
+rows_of_kind text held node (Dissect input pattern separator) rows = rows_of_dissect input pattern.text separator rows
+rows_of_kind text held node (Grok input pattern) rows = rows_of_grok node input pattern.text rows
+rows_of_kind text held node (Enrich policy on fields) rows = rows_of_enrich held policy on fields rows
+rows_of_kind text held node (Join table on) rows = rows
 
--- What fails in a command: KEEP, DROP, RENAME, LIMIT and MV_EXPAND never do. No query with a command that is not built so far is answered.
+-- What fails in a command: KEEP, DROP, RENAME, LIMIT, MV_EXPAND and ENRICH never do. No query with LOOKUP JOIN is answered so far.
 abbrev pub failures_of_kind : List ℕ → NodeId → CommandKind → List Row → List Failure
 failures_of_kind text node (Filter condition) rows = failures_of_rows node condition rows
 failures_of_kind text node (Eval fields) rows = failures_of_fields text fields rows
@@ -129,18 +131,18 @@ failures_of_kind text node (Sort keys) rows = failures_of_keys keys rows
 failures_of_kind text node (Limit count) rows = []
 failures_of_kind text node (Expand column) rows = []
 failures_of_kind text node (Stats fields groups) rows = failures_of_stats fields groups rows
-failures_of_kind text node (Dissect input pattern separator) rows = []
-failures_of_kind text node (Grok input pattern) rows = []
+failures_of_kind text node (Dissect input pattern separator) rows = failures_of_expr input rows
+failures_of_kind text node (Grok input pattern) rows = failures_of_grok node input pattern.text rows
 failures_of_kind text node (Enrich policy on fields) rows = []
 failures_of_kind text node (Join table on) rows = []
 
 -- the rows after commands in turn
-abbrev pub rows_of_commands : List ℕ → List Command → List Row → List Row
-rows_of_commands text [] rows = rows
-rows_of_commands text (command ∷ commands) rows = rows_of_commands text commands (rows_of_kind text command.kind rows)
+abbrev pub rows_of_commands : List ℕ → CatalogHeld → List Command → List Row → List Row
+rows_of_commands text held [] rows = rows
+rows_of_commands text held (command ∷ commands) rows = rows_of_commands text held commands (rows_of_kind text held command.node command.kind rows)
 
 -- the failures of commands in turn, each on the rows that come to it
-abbrev pub failures_of_commands : List ℕ → List Command → List Row → List Failure
-failures_of_commands text [] rows = []
-failures_of_commands text (command ∷ commands) rows =
-    failures_of_kind text command.node command.kind rows ++ failures_of_commands text commands (rows_of_kind text command.kind rows)
+abbrev pub failures_of_commands : List ℕ → CatalogHeld → List Command → List Row → List Failure
+failures_of_commands text held [] rows = []
+failures_of_commands text held (command ∷ commands) rows =
+    failures_of_kind text command.node command.kind rows ++ failures_of_commands text held commands (rows_of_kind text held command.node command.kind rows)

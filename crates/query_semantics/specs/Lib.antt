@@ -2,9 +2,12 @@ pub mod RowValues
 pub mod Calls
 pub mod Stats
 pub mod StatsShapes
+pub mod Appended
+pub mod AppendedShapes
 pub mod Shapes
 pub mod Writings
 pub mod WrittenStats
+pub mod WrittenAppended
 pub mod Written
 pub mod Cuts
 pub mod Commands
@@ -12,4 +15,5 @@ pub mod Meaning
 pub mod Places
 pub mod Built
 pub mod Catalogs
+pub mod Sizes
 pub mod Named

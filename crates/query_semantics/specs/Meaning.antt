@@ -1,4 +1,4 @@
--- What a query means over tables: the source's rows, put through each command in written order, then the last cut.
+-- What a query means over a catalog whose tables have their rows: the source's rows, put through each command in written order, then the last cut.
 use Rattle.std.specs.Prelude.{◌≡◌, ℕ, List, [], ◌∷◌, ◌++◌, map, take, All, Option, Some, None, slice_get}
 use Rattle.std.specs.List.{flat_map}
 use Rattle.esql_types.specs.declared.value.Value.{Value}
@@ -8,7 +8,7 @@ use Rattle.esql_ast.specs.declared.query.NameAt.{NameAt}
 use Rattle.esql_ast.specs.declared.query.Query.{Query}
 use Rattle.esql_ast.specs.declared.query.SourceCommand.{SourceCommand}
 use Rattle.esql_ast.specs.declared.query.SourceCommand.TheVariants.{Tables, OneRow}
-use Rattle.plan_semantics.specs.Tables.{TableHeld, catalog_tables, cell_named}
+use Rattle.plan_semantics.specs.Tables.{TableHeld, CatalogHeld, catalog_tables, cell_named}
 use Rattle.plan_semantics.specs.Agrees.{PlanSeen}
 use Rattle.row_semantics.specs.Rows.{Row}
 use Rattle.row_semantics.specs.Columns.{names_of}
@@ -48,10 +48,10 @@ pub record Meaning : Type 0 where
   pub failures : List Failure
 
 -- The last cut drops rows and no failure.
-abbrev pub meaning_of : List ℕ → List TableHeld → Query → Meaning
-meaning_of text tables query = record {
-  rows = take (last_count query) (rows_of_commands text query.commands (rows_of_source text tables query.source));
-  failures = failures_of_source text query.source ++ failures_of_commands text query.commands (rows_of_source text tables query.source);
+abbrev pub meaning_of : List ℕ → CatalogHeld → Query → Meaning
+meaning_of text held query = record {
+  rows = take (last_count query) (rows_of_commands text held query.commands (rows_of_source text held.tables query.source));
+  failures = failures_of_source text query.source ++ failures_of_commands text held query.commands (rows_of_source text held.tables query.source);
 }
 
 -- the rows have just the names of the columns, in their order

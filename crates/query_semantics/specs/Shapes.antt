@@ -25,6 +25,7 @@ use Rattle.row_semantics.specs.Kinds.{breaks, and_then, kind_of_column, kind_or_
 use Rattle.row_semantics.specs.Fields.{name_of_field}
 use Rattle.row_semantics.specs.Columns.{names_of, put_column, column_as}
 use Rattle.row_semantics.specs.Sources.{columns_of_tables}
+use Rattle.query_semantics.specs.AppendedShapes.{shape_of_dissect, shape_of_grok, shape_of_enrich}
 use Rattle.query_semantics.specs.StatsShapes.{shape_of_stats}
 
 -- columns, or a rule that is broken
@@ -101,7 +102,7 @@ shape_of_expand column columns = and_then (kind_of_column (column_named columns 
 
 -- commands ---------------------------------------------------------------------------------------------------------------
 
--- The columns after a command. No query with a command that is not built so far is judged: those leave the columns as they are.
+-- The columns after a command. No query with LOOKUP JOIN is judged so far: it leaves the columns as they are.
 abbrev pub shape_of_kind : Context → CommandKind → List Column → Shape
 shape_of_kind context (Filter condition) columns = shape_of_condition context condition columns
 shape_of_kind context (Eval fields) columns = shape_of_fields context fields columns
@@ -112,9 +113,9 @@ shape_of_kind context (Sort keys) columns = shape_of_keys context keys columns
 shape_of_kind context (Limit count) columns = Ok columns
 shape_of_kind context (Expand column) columns = shape_of_expand column columns
 shape_of_kind context (Stats fields groups) columns = shape_of_stats context.text context.accepts fields groups columns
-shape_of_kind context (Dissect input pattern separator) columns = Ok columns
-shape_of_kind context (Grok input pattern) columns = Ok columns
-shape_of_kind context (Enrich policy on fields) columns = Ok columns
+shape_of_kind context (Dissect input pattern separator) columns = shape_of_dissect context.accepts input pattern separator columns
+shape_of_kind context (Grok input pattern) columns = shape_of_grok context.accepts input pattern columns
+shape_of_kind context (Enrich policy on fields) columns = shape_of_enrich context.catalog.policies policy on fields columns
 shape_of_kind context (Join table on) columns = Ok columns
 
 -- a command that leaves no column breaks a rule

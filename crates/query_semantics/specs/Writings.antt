@@ -10,15 +10,17 @@ use Rattle.esql_plan.specs.declared.step.Step.TheVariants as step
 use Rattle.esql_plan.specs.declared.typed.TypedExpr.{TypedExpr}
 use Rattle.esql_plan.specs.declared.typed.TypedForm.TheOpen.{TypedForm-F, Constant, Column as ColumnRead, Apply}
 use Rattle.esql_plan.specs.declared.typed.TypedForm.TheFolds.{fold-TypedExpr}
+use Rattle.dissect_grok.specs.declared.cutter.Cutter.{Cutter}
 use Rattle.row_semantics.specs.Typed.{typing_of, typed_of}
 
--- A plan that is being written: the columns that can be seen, the next column number, the patterns that were read so far, and
--- the steps.
+-- A plan that is being written: the columns that can be seen, the next column number, the patterns and cutters that were read so
+-- far, and the steps.
 pub record Writing : Type 0 where
   pub visible : List OutColumn
   pub next : ℕ
   pub whole : List (List ℕ)
   pub free : List (List ℕ)
+  pub cutters : List Cutter
   pub steps : List Step
 
 abbrev pub column_at : ℕ → ColId

@@ -1,4 +1,5 @@
--- The plan that a query is written as: names vanish, and steps stand for fields, conditions, SORT, MV_EXPAND, STATS and LIMIT.
+-- The plan that a query is written as: names vanish, and steps stand for fields, conditions, SORT, MV_EXPAND, STATS, DISSECT, GROK,
+-- ENRICH and LIMIT.
 use Rattle.std.specs.Prelude.{ℕ, ◌+◌, List, [], ◌∷◌, ◌++◌, map, fold, length, Option, Some, None, if◌then◌else◌}
 use Rattle.std.specs.Str.{bytes_eq}
 use Rattle.esql_types.specs.declared.names.NodeId.{NodeId}
@@ -16,6 +17,7 @@ use Rattle.esql_ast.specs.declared.query.SourceCommand.{SourceCommand}
 use Rattle.esql_ast.specs.declared.query.SourceCommand.TheVariants.{Tables, OneRow}
 use Rattle.esql_ast.specs.NameRules.{keep_places, drop_places, at_places, renamings, renamed_by}
 use Rattle.esql_plan.specs.declared.catalog.Catalog.{Catalog}
+use Rattle.esql_plan.specs.declared.catalog.PolicyShape.{PolicyShape}
 use Rattle.esql_plan.specs.declared.plan.Plan.{Plan}
 use Rattle.esql_plan.specs.declared.plan.PlanSource.{PlanSource}
 use Rattle.esql_plan.specs.declared.plan.PlanSource.TheVariants as source
@@ -23,11 +25,13 @@ use Rattle.esql_plan.specs.declared.plan.ScanColumn.{ScanColumn}
 use Rattle.esql_plan.specs.declared.plan.OutColumn.{OutColumn}
 use Rattle.esql_plan.specs.declared.step.PlanKey.{PlanKey}
 use Rattle.esql_plan.specs.declared.step.Step.TheVariants as step
+use Rattle.dissect_grok.specs.declared.cutter.Cutter.{Cutter}
 use Rattle.row_semantics.specs.Fields.{name_of_field}
 use Rattle.row_semantics.specs.Sources.{tables_named, columns_of_tables, columns_or_none}
 use Rattle.row_semantics.specs.Typed.{visible_named}
 use Rattle.query_semantics.specs.Cuts.{last_count}
 use Rattle.query_semantics.specs.Writings.{Writing, column_at, visible_names, put_visible, visible_as, typed_in, with_step, write_input, input_of}
+use Rattle.query_semantics.specs.WrittenAppended.{write_dissect, write_grok, write_enrich}
 use Rattle.query_semantics.specs.WrittenStats.{write_stats}
 
 -- a field makes a column
@@ -87,24 +91,24 @@ write_expand_of (Some column) name writing = record writing {
 abbrev pub write_expand : List ℕ → Writing → Writing
 write_expand name writing = write_expand_of (visible_named writing.visible name) name writing
 
--- The steps of a command. No plan is written of a query with a command that is not built so far: those write nothing.
-abbrev pub write_kind : List ℕ → NodeId → CommandKind → Writing → Writing
-write_kind text node (Filter condition) writing = write_condition node condition writing
-write_kind text node (Eval fields) writing = write_fields text fields writing
-write_kind text node (Keep patterns) writing = write_keep patterns writing
-write_kind text node (Drop patterns) writing = write_drop patterns writing
-write_kind text node (Rename pairs) writing = write_rename pairs writing
-write_kind text node (Sort keys) writing = write_sort keys writing
-write_kind text node (Limit count) writing = write_limit count writing
-write_kind text node (Expand column) writing = write_expand column.name writing
-write_kind text node (Stats fields groups) writing = write_stats text fields groups writing
-write_kind text node (Dissect input pattern separator) writing = writing
-write_kind text node (Grok input pattern) writing = writing
-write_kind text node (Enrich policy on fields) writing = writing
-write_kind text node (Join table on) writing = writing
+-- The steps of a command. No plan is written of a query with LOOKUP JOIN so far: it writes nothing.
+abbrev pub write_kind : List ℕ → List PolicyShape → NodeId → CommandKind → Writing → Writing
+write_kind text policies node (Filter condition) writing = write_condition node condition writing
+write_kind text policies node (Eval fields) writing = write_fields text fields writing
+write_kind text policies node (Keep patterns) writing = write_keep patterns writing
+write_kind text policies node (Drop patterns) writing = write_drop patterns writing
+write_kind text policies node (Rename pairs) writing = write_rename pairs writing
+write_kind text policies node (Sort keys) writing = write_sort keys writing
+write_kind text policies node (Limit count) writing = write_limit count writing
+write_kind text policies node (Expand column) writing = write_expand column.name writing
+write_kind text policies node (Stats fields groups) writing = write_stats text fields groups writing
+write_kind text policies node (Dissect input pattern separator) writing = write_dissect node input pattern.text separator writing
+write_kind text policies node (Grok input pattern) writing = write_grok node input pattern.text writing
+write_kind text policies node (Enrich policy on fields) writing = write_enrich policies policy on fields writing
+write_kind text policies node (Join table on) writing = writing
 
-abbrev pub write_command : List ℕ → Writing → Command → Writing
-write_command text writing command = write_kind text command.node command.kind writing
+abbrev pub write_command : List ℕ → List PolicyShape → Writing → Command → Writing
+write_command text policies writing command = write_kind text policies command.node command.kind writing
 
 -- columns with numbers in turn
 abbrev pub numbered_from : ℕ → List Column → List OutColumn
@@ -116,7 +120,7 @@ scan_column column = record { name = column.name; kind = column.kind; to = colum
 
 -- a plan before its first step, over columns that are read
 abbrev pub writing_of_columns : List Column → Writing
-writing_of_columns columns = record { visible = numbered_from 0 columns; next = length columns; whole = []; free = []; steps = [] }
+writing_of_columns columns = record { visible = numbered_from 0 columns; next = length columns; whole = []; free = []; cutters = []; steps = [] }
 
 -- FROM reads each table once, and numbers its columns in their order
 abbrev pub source_in_plan : Catalog → SourceCommand → PlanSource
@@ -130,19 +134,22 @@ write_source text catalog (OneRow node span fields) = write_fields text fields (
 
 -- the whole query, with the last cut at the end
 abbrev pub writing_of : List ℕ → Catalog → Query → Writing
-writing_of text catalog query = write_limit (last_count query) (fold (write_command text) (write_source text catalog query.source) query.commands)
+writing_of text catalog query = write_limit (last_count query) (fold (write_command text catalog.policies) (write_source text catalog query.source) query.commands)
 
--- a plan, with the texts of the patterns that it reads: those that are matched against whole texts, and those that are searched for
+-- a plan, with the texts of the patterns that it reads, those that are matched against whole texts and those that are searched for,
+-- and its cutters
 pub record Written : Type 0 where
   pub plan : Plan
   pub whole : List (List ℕ)
   pub free : List (List ℕ)
+  pub cutters : List Cutter
 
 abbrev pub written_by : PlanSource → ℕ → Writing → Written
 written_by start nodes writing = record {
   plan = record { source = start; steps = writing.steps; output = writing.visible; columns = writing.next; nodes = nodes };
   whole = writing.whole;
   free = writing.free;
+  cutters = writing.cutters;
 }
 
 -- the plan that a query is written as
