@@ -1,7 +1,6 @@
--- The columns of a query differ in their names, and its rows have just these names.
-use Rattle.std.proofs.Common.{◌≡◌, ℕ, List, [], ◌∷◌, map, Ok, sym, subst, ◌∙◌}
+-- The columns of a query differ in their names.
+use Rattle.std.proofs.Common.{◌≡◌, ℕ, List, [], ◌∷◌, Some, Ok, sym, subst}
 use Rattle.std.proofs.lemmas.List.{map-append}
-use Rattle.std.proofs.lemmas.List.Elements.{All-nil, All-cons}
 use Rattle.esql_types.specs.declared.names.Column.{Column}
 use Rattle.esql_types.specs.declared.value.Kind.{Kind}
 use Rattle.esql_ast.specs.declared.query.Field.{Field}
@@ -14,29 +13,20 @@ use Rattle.esql_ast.specs.declared.query.SourceCommand.{SourceCommand}
 use Rattle.esql_ast.specs.declared.query.SourceCommand.TheVariants.{Tables, OneRow}
 use Rattle.esql_ast.specs.NameRules.{first_unmet, first_missing}
 use Rattle.esql_plan.specs.declared.catalog.Catalog.{Catalog}
-use Rattle.esql_plan.specs.declared.plan.OutColumn.{OutColumn}
-use Rattle.esql_plan.specs.Values.{NumberedRow}
-use Rattle.plan_semantics.specs.Tables.{TableHeld, catalog_tables}
-use Rattle.plan_semantics.specs.Steps.{rows_after}
-use Rattle.plan_semantics.specs.Plans.{columns_of}
+use Rattle.plan_semantics.specs.Taken.{columns_of_reading, columns_of_grok}
 use Rattle.row_semantics.specs.Fields.{name_of_field}
 use Rattle.row_semantics.specs.Kinds.{kind_or_rule}
 use Rattle.row_semantics.specs.Columns.{names_of, HaveDistinctNames, put_column, without_column}
 use Rattle.row_semantics.specs.Regulars.{is_accepted}
 use Rattle.row_semantics.specs.Sources.{columns_of_tables}
-use Rattle.query_semantics.specs.Commands.{names_in}
-use Rattle.query_semantics.specs.Meaning.{meaning_of, AreRowsOf}
+use Rattle.query_semantics.specs.Appended.{put_columns, fields_taken, taken_columns}
 use Rattle.query_semantics.specs.Shapes.{Context, scope_over, shape_of_field, shape_of_fields, shape_of_kind, unless_empty, shape_of_command, shape_of_commands, shape_of_source, shape_of}
 use Rattle.query_semantics.specs.Stats.{name_of_stats}
 use Rattle.query_semantics.specs.StatsShapes.{FieldKinds, put_field_columns, put_group_columns}
-use Rattle.query_semantics.specs.Writings.{Writing}
-use Rattle.query_semantics.specs.Written.{writing_of}
-use Rattle.query_semantics.specs.Named.{named_row}
 use Rattle.query_semantics.proofs.Kinded.{found_of, ok_is}
-use Rattle.query_semantics.proofs.Named.{names_in-named, names_of-columns}
+use Rattle.written_laws.proofs.AppendedJudged.{dissect_judged, grok_judged, enrich_judged}
 use Rattle.written_laws.proofs.Shown.{unmet_is, missing_is, empty_is, condition_shows, keys_leave, expand_leaves}
 use Rattle.written_laws.proofs.StatsWhole.{stats_shape}
-use Rattle.written_laws.proofs.Whole.{start_of, rows_are, columns_are}
 use Rattle.query_semantics.proofs.Distinct.{AreDistinct, distinct_nil, distinct_put}
 use Rattle.written_laws.proofs.NamesKept.{columns_keep, columns_drop, columns_rename}
 use Rattle.query_semantics.proofs.Ordered.{tables_distinct}
@@ -50,6 +40,10 @@ put_distinct : (columns : List Column) (name : List ℕ) (kind : Kind) → HaveD
 put_distinct columns name kind distinct =
     subst AreDistinct (sym (map-append (λ (column : Column). column.name) (without_column columns name) (record { name = name; kind = kind } ∷ [])))
     (distinct_put (λ (column : Column). column.name) name columns distinct)
+
+columns_distinct : (columns new : List Column) → HaveDistinctNames columns → HaveDistinctNames (put_columns columns new)
+columns_distinct columns [] distinct = distinct
+columns_distinct columns (first ∷ new) distinct = columns_distinct (put_column columns first.name first.kind) new (put_distinct columns first.name first.kind distinct)
 
 fields_distinct : (context : Context) (fields : List Field) (columns after : List Column) → HaveDistinctNames columns → shape_of_fields context fields columns ≡ Ok after → HaveDistinctNames after
 fields_distinct context [] columns after distinct is = same_distinct columns after (ok_is is) distinct
@@ -86,9 +80,15 @@ kind_distinct context (Expand column) columns after distinct is = same_distinct 
 kind_distinct context (Stats fields groups) columns after distinct is =
     let found = stats_shape context.text context.accepts fields groups columns after is in
     same_distinct _ after found.next_is (group_columns_distinct context.text groups found.groups _ (field_columns_distinct context.text fields found.fields [] distinct_nil))
-kind_distinct context (Dissect input pattern separator) columns after distinct is = same_distinct columns after (ok_is is) distinct
-kind_distinct context (Grok input pattern) columns after distinct is = same_distinct columns after (ok_is is) distinct
-kind_distinct context (Enrich policy on fields) columns after distinct is = same_distinct columns after (ok_is is) distinct
+kind_distinct context (Dissect input pattern separator) columns after distinct is =
+    let judged = dissect_judged context.accepts columns input pattern separator after is in
+    same_distinct _ after judged.next_is (columns_distinct columns (columns_of_reading (Some judged.reading)) distinct)
+kind_distinct context (Grok input pattern) columns after distinct is =
+    let judged = grok_judged context.accepts columns input pattern after is in
+    same_distinct _ after judged.next_is (columns_distinct columns (columns_of_grok (Some judged.reading)) distinct)
+kind_distinct context (Enrich policy on fields) columns after distinct is =
+    let judged = enrich_judged columns on fields after context.catalog.policies policy is in
+    same_distinct _ after judged.next_is (columns_distinct columns (taken_columns (fields_taken judged.found.shape.fields fields)) distinct)
 kind_distinct context (Join table on) columns after distinct is = same_distinct columns after (ok_is is) distinct
 
 commands_distinct : (context : Context) (commands : List Command) (columns after : List Column) → HaveDistinctNames columns → shape_of_commands context commands columns ≡ Ok after → HaveDistinctNames after
@@ -110,17 +110,3 @@ names_distinct text catalog query columns is =
     let context : Context = record { text = text; catalog = catalog; accepts = is_accepted } in
     let found = found_of (shape_of_source context query.source) (shape_of_commands context query.commands) columns is in
     commands_distinct context query.commands found.value columns (source_distinct context query.source found.value found.is) found.next_is
-
--- the rows -----------------------------------------------------------------------------------------------------------------
-
-rows_named : (visible : List OutColumn) (rows : List NumberedRow) → AreRowsOf (columns_of visible) (map (named_row visible) rows)
-rows_named visible [] = All-nil (λ row. names_in row ≡ names_of (columns_of visible))
-rows_named visible (row ∷ rows) =
-    All-cons (λ row. names_in row ≡ names_of (columns_of visible)) (named_row visible row) (map (named_row visible) rows) (names_in-named visible row ∙ sym (names_of-columns visible)) (rows_named visible rows)
-
-pub are_rows : (text : List ℕ) (tables : List TableHeld) (catalog : Catalog) (query : Query) (columns : List Column) → catalog.tables ≡ catalog_tables tables
-    → shape_of text catalog query ≡ Ok columns → AreRowsOf columns (meaning_of text tables query).rows
-are_rows text tables catalog query columns tables_are is =
-    let writing : Writing = writing_of text catalog query in
-    subst (λ these. AreRowsOf these (meaning_of text tables query).rows) (sym (columns_are text catalog query columns is))
-    (subst (AreRowsOf (columns_of writing.visible)) (sym (rows_are text tables catalog query columns tables_are is)) (rows_named writing.visible (rows_after writing.steps (start_of tables catalog query))))

@@ -1,5 +1,5 @@
 -- The conditions of STATS, the arguments of its aggregate calls and what it groups by are well formed, and their columns are made.
-use Rattle.std.proofs.Common.{◌≡◌, ℕ, true, false, List, [], ◌∷◌, ◌++◌, All, Contains, Option, Some, None, Ok, refl, ap, sym, subst, ◌∙◌}
+use Rattle.std.proofs.Common.{◌≡◌, true, false, List, [], ◌∷◌, ◌++◌, All, Contains, Option, Some, None, Ok, refl, ap, sym, subst, ◌∙◌}
 use Rattle.std.specs.List.{flat_map}
 use Rattle.std.proofs.lemmas.List.Elements.{All-nil, All-cons, All-head, All-tail, All-same}
 use Rattle.esql_types.proofs.Lists.{All-front}
@@ -32,7 +32,7 @@ use Rattle.written_laws.proofs.FieldsRead.{call_kind}
 use Rattle.written_laws.proofs.FlagsFit.{flag_fits, flagged_fits, flag_nodes, flagged_nodes, flag_reads, flagged_reads}
 use Rattle.written_laws.proofs.Shown.{Shows, input_shows}
 use Rattle.written_laws.proofs.StatsJudged.{IsJudgedIf, FieldIsJudged, GroupIsJudged}
-use Rattle.written_laws.proofs.StepsFormed.{IsNodeBelow, IsFormed, expr_stands, typed_formed, typed_made, typed_kept, input_formed}
+use Rattle.written_laws.proofs.StepsFormed.{Start, IsNodeBelow, IsFormed, expr_stands, typed_formed, typed_made, typed_kept, input_formed}
 
 -- aggregates ----------------------------------------------------------------------------------------------------------------------
 
@@ -129,8 +129,8 @@ flag_kept made after kept None is = tt
 flag_kept made after kept (Some flag) is = kept (made_as flag.id Boolean) is
 
 -- what has been written is well formed, it shows the same columns, and none is lost
-pub record IsFormedAfter (made : List MadeColumn) (first : ℕ) (columns : List Column) (before after : Writing) : Type 0 where
-  pub formed : IsFormed made first after
+pub record IsFormedAfter (made : List MadeColumn) (start : Start) (columns : List Column) (before after : Writing) : Type 0 where
+  pub formed : IsFormed made start after
   pub kept : AreKept (steps_made made before.steps) (steps_made made after.steps)
   pub shows : Shows after columns
 
@@ -140,7 +140,7 @@ FieldJudged context columns = FieldIsJudged context.accepts columns
 abbrev pub calls_in_field : StatsField → List AggregateCall
 calls_in_field stats = calls_of stats.field.expr
 
-module _ (made : List MadeColumn) (first : ℕ) (context : Context) (columns : List Column) where
+module _ (made : List MadeColumn) (start : Start) (context : Context) (columns : List Column) where
   abbrev made_in : Writing → List MadeColumn
   made_in writing = steps_made made writing.steps
 
@@ -148,7 +148,7 @@ module _ (made : List MadeColumn) (first : ℕ) (context : Context) (columns : L
   Judges = IsJudged context.accepts columns
 
   -- nothing is written
-  same_formed : (writing : Writing) → IsFormed made first writing → Shows writing columns → IsFormedAfter made first columns writing writing
+  same_formed : (writing : Writing) → IsFormed made start writing → Shows writing columns → IsFormedAfter made start columns writing writing
   same_formed writing formed shows = record { formed = formed; kept = λ column there. there; shows = shows }
 
   -- one call ------------------------------------------------------------------------------------------------------------------
@@ -184,7 +184,7 @@ module _ (made : List MadeColumn) (first : ℕ) (context : Context) (columns : L
 
   -- the input of a call
   pub record CallIsFormed (flag : Option Flag) (call : AggregateCall) (writing : Writing) : Type 0 where
-    pub after : IsFormedAfter made first columns writing (write_call flag call.argument writing)
+    pub after : IsFormedAfter made start columns writing (write_call flag call.argument writing)
     pub call_made : CallIsMade columns (made_in (write_call flag call.argument writing)) call
         (record { node = call.node; function = function_of_call flag call.function; input = call_input flag call.argument writing })
 
@@ -194,7 +194,7 @@ module _ (made : List MadeColumn) (first : ℕ) (context : Context) (columns : L
   typed_kinded : (argument : Expr) (writing : Writing) → Shows writing columns → (own : Kind) → kind_or_rule argument (scope_over context columns) ≡ Ok own → (typed_in writing argument).kind ≡ own
   typed_kinded argument writing shows own is = expr_kinded argument (over writing.visible) (scope_over context columns) own shows is _ _
 
-  call_formed : (flag : Option Flag) (node : NodeId) (function : AggFunction) (argument : Option Expr) (writing : Writing) → IsFormed made first writing → Shows writing columns → IsFlagMade (made_in writing) flag
+  call_formed : (flag : Option Flag) (node : NodeId) (function : AggFunction) (argument : Option Expr) (writing : Writing) → IsFormed made start writing → Shows writing columns → IsFlagMade (made_in writing) flag
       → Judges (record { node = node; function = function; argument = argument }) → CallIsFormed flag (record { node = node; function = function; argument = argument }) writing
   call_formed None node function None writing formed shows flagged judged =
       let rows = judged.none refl in
@@ -221,7 +221,7 @@ module _ (made : List MadeColumn) (first : ℕ) (context : Context) (columns : L
       }
   call_formed None node function (Some argument) writing formed shows flagged judged =
       let own = judged.argument in
-      let one = input_formed made first context columns argument writing formed shows (record { kind = own.kind; is = own.is }) in
+      let one = input_formed made start context columns argument writing formed shows (record { kind = own.kind; is = own.is }) in
       record {
         after = record { formed = one.formed; kept = one.kept; shows = input_shows columns writing argument shows };
         call_made = argument_made None node function argument (input_of writing argument) (made_in (write_input writing argument)) (typed_in writing argument).kind judged (typed_kinded argument writing shows) one.input;
@@ -232,29 +232,29 @@ module _ (made : List MadeColumn) (first : ℕ) (context : Context) (columns : L
       let typed : TypedExpr = flagged_typed flag argument_typed in
       record {
         after = record {
-          formed = typed_formed made first writing formed argument typed (λ bounds whole free nodes.
+          formed = typed_formed made start writing formed argument typed (λ bounds whole free nodes.
               let inner = All-front (IsNodeBelow bounds.nodes) (nodes_of argument_typed) (flag.node ∷ [])
               (All-same (IsNodeBelow bounds.nodes) _ _ (sym (flagged_nodes flag argument_typed)) nodes) in
-              let stands = expr_stands made first writing formed context columns argument own.kind shows own.is bounds whole free inner in
+              let stands = expr_stands made start writing formed context columns argument own.kind shows own.is bounds whole free inner in
               record {
                 fits = flagged_fits bounds.whole bounds.free flag argument_typed stands.fits;
                 reads = flagged_reads (made_in writing) flag argument_typed flagged stands.reads;
                 nodes = nodes;
               });
-          kept = typed_kept made first writing formed argument typed;
+          kept = typed_kept made start writing formed argument typed;
           shows = shows;
         };
         call_made = argument_made (Some flag) node function argument (column_at writing.next) (made_in (write_typed writing argument typed)) typed.kind judged
-            (typed_kinded argument writing shows) (typed_made made first writing formed argument typed);
+            (typed_kinded argument writing shows) (typed_made made start writing formed argument typed);
       }
 
   -- calls in turn ---------------------------------------------------------------------------------------------------------------
 
   pub record CallsAreFormed (flag : Option Flag) (calls : List AggregateCall) (writing : Writing) : Type 0 where
-    pub after : IsFormedAfter made first columns writing (write_calls flag calls writing)
+    pub after : IsFormedAfter made start columns writing (write_calls flag calls writing)
     pub calls_made : AreCallsMade columns (made_in (write_calls flag calls writing)) calls (inputs_of_calls flag calls writing)
 
-  calls_formed : (flag : Option Flag) (calls : List AggregateCall) (writing : Writing) → IsFormed made first writing → Shows writing columns → IsFlagMade (made_in writing) flag → All Judges calls
+  calls_formed : (flag : Option Flag) (calls : List AggregateCall) (writing : Writing) → IsFormed made start writing → Shows writing columns → IsFlagMade (made_in writing) flag → All Judges calls
       → CallsAreFormed flag calls writing
   calls_formed flag [] writing formed shows flagged judged = record { after = same_formed writing formed shows; calls_made = tt }
   calls_formed flag (call ∷ calls) writing formed shows flagged judged =
@@ -271,36 +271,36 @@ module _ (made : List MadeColumn) (first : ℕ) (context : Context) (columns : L
   -- fields ----------------------------------------------------------------------------------------------------------------------
 
   pub record FlagIsFormed (condition : Option Condition) (writing : Writing) : Type 0 where
-    pub after : IsFormedAfter made first columns writing (write_flag condition writing)
+    pub after : IsFormedAfter made start columns writing (write_flag condition writing)
     pub flagged : IsFlagMade (made_in (write_flag condition writing)) (flag_of condition writing)
 
-  flag_formed : (condition : Option Condition) (writing : Writing) → IsFormed made first writing → Shows writing columns → IsJudgedIf context.accepts columns condition → FlagIsFormed condition writing
+  flag_formed : (condition : Option Condition) (writing : Writing) → IsFormed made start writing → Shows writing columns → IsJudgedIf context.accepts columns condition → FlagIsFormed condition writing
   flag_formed None writing formed shows judged = record { after = same_formed writing formed shows; flagged = tt }
   flag_formed (Some condition) writing formed shows judged =
       let inner : TypedExpr = typed_in writing condition.expr in
       let typed : TypedExpr = flag_typed condition.node inner in
       record {
         after = record {
-          formed = typed_formed made first writing formed condition.expr typed (λ bounds whole free nodes.
+          formed = typed_formed made start writing formed condition.expr typed (λ bounds whole free nodes.
               let below = All-front (IsNodeBelow bounds.nodes) (nodes_of inner) (condition.node ∷ [])
               (All-same (IsNodeBelow bounds.nodes) _ _ (sym (flag_nodes condition.node inner)) nodes) in
-              let stands = expr_stands made first writing formed context columns condition.expr judged.kind shows judged.is bounds whole free below in
+              let stands = expr_stands made start writing formed context columns condition.expr judged.kind shows judged.is bounds whole free below in
               record {
                 fits = flag_fits bounds.whole bounds.free condition.node inner (ap (is_kind Boolean) (typed_kinded condition.expr writing shows judged.kind judged.is) ∙ judged.truth) stands.fits;
                 reads = flag_reads (made_in writing) condition.node inner stands.reads;
                 nodes = nodes;
               });
-          kept = typed_kept made first writing formed condition.expr typed;
+          kept = typed_kept made start writing formed condition.expr typed;
           shows = shows;
         };
-        flagged = typed_made made first writing formed condition.expr typed;
+        flagged = typed_made made start writing formed condition.expr typed;
       }
 
   pub record FieldsAreBefore (fields : List StatsField) (writing : Writing) : Type 0 where
-    pub after : IsFormedAfter made first columns writing (write_all_before fields writing)
+    pub after : IsFormedAfter made start columns writing (write_all_before fields writing)
     pub calls_made : AreCallsMade columns (made_in (write_all_before fields writing)) (flat_map calls_in_field fields) (all_inputs fields writing)
 
-  pub fields_before : (fields : List StatsField) (writing : Writing) → IsFormed made first writing → Shows writing columns → All (FieldJudged context columns) fields → FieldsAreBefore fields writing
+  pub fields_before : (fields : List StatsField) (writing : Writing) → IsFormed made start writing → Shows writing columns → All (FieldJudged context columns) fields → FieldsAreBefore fields writing
   fields_before [] writing formed shows judged = record { after = same_formed writing formed shows; calls_made = tt }
   fields_before (stats ∷ fields) writing formed shows judged =
       let own = All-head (FieldJudged context columns) stats fields judged in
@@ -321,16 +321,16 @@ module _ (made : List MadeColumn) (first : ℕ) (context : Context) (columns : L
   GroupJudged = GroupIsJudged context.accepts columns
 
   pub record GroupsAreFormed (groups : List Field) (writing : Writing) : Type 0 where
-    pub after : IsFormedAfter made first columns writing (write_groups groups writing)
+    pub after : IsFormedAfter made start columns writing (write_groups groups writing)
     pub inputs : All (λ (input : GroupInput). IsMadeAs (made_in (write_groups groups writing)) input.id input.kind) (group_inputs groups writing)
 
-  pub groups_formed : (groups : List Field) (writing : Writing) → IsFormed made first writing → Shows writing columns → All GroupJudged groups → GroupsAreFormed groups writing
+  pub groups_formed : (groups : List Field) (writing : Writing) → IsFormed made start writing → Shows writing columns → All GroupJudged groups → GroupsAreFormed groups writing
   groups_formed [] writing formed shows judged =
       record { after = same_formed writing formed shows; inputs = All-nil (λ (input : GroupInput). IsMadeAs (made_in writing) input.id input.kind) }
   groups_formed (group ∷ groups) writing formed shows judged =
       let own = All-head GroupJudged group groups judged in
       let next : Writing = write_input writing group.expr in
-      let one = input_formed made first context columns group.expr writing formed shows (record { kind = own.kind; is = own.is }) in
+      let one = input_formed made start context columns group.expr writing formed shows (record { kind = own.kind; is = own.is }) in
       let rest = groups_formed groups next one.formed (input_shows columns writing group.expr shows) (All-tail GroupJudged group groups judged) in
       let last : List MadeColumn = made_in (write_groups groups next) in
       record {

@@ -11,27 +11,37 @@ use Rattle.esql_types.specs.declared.names.ColId.{ColId}
 use Rattle.esql_types.specs.declared.names.NodeId.{NodeId}
 use Rattle.esql_ast.specs.declared.expr.Expr.{Expr}
 use Rattle.esql_ast.specs.declared.query.Condition.{Condition}
+use Rattle.esql_ast.specs.declared.query.EnrichItem.{EnrichItem}
+use Rattle.esql_ast.specs.declared.query.NameAt.{NameAt}
 use Rattle.esql_ast.specs.declared.query.Field.{Field}
 use Rattle.esql_ast.specs.declared.query.StatsField.{StatsField}
 use Rattle.esql_ast.specs.declared.query.Query.{Query}
 use Rattle.esql_ast.specs.declared.query.Command.{Command}
 use Rattle.esql_ast.specs.declared.query.CommandKind.{CommandKind}
-use Rattle.esql_ast.specs.declared.query.CommandKind.TheVariants.{Filter, Eval, Sort, Limit, Expand, Stats}
+use Rattle.esql_ast.specs.declared.query.CommandKind.TheVariants.{Filter, Eval, Sort, Limit, Expand, Stats, Dissect, Grok, Enrich}
 use Rattle.esql_ast.specs.declared.query.SourceCommand.{SourceCommand}
 use Rattle.esql_ast.specs.declared.query.SourceCommand.TheVariants.{Tables, OneRow}
 use Rattle.esql_plan.specs.declared.catalog.Catalog.{Catalog}
+use Rattle.esql_plan.specs.declared.catalog.PolicyShape.{PolicyShape}
 use Rattle.esql_plan.specs.declared.plan.OutColumn.{OutColumn}
 use Rattle.esql_plan.specs.declared.plan.ScanColumn.{ScanColumn}
+use Rattle.esql_plan.specs.declared.step.NewColumn.{NewColumn}
 use Rattle.esql_plan.specs.declared.step.Step.{Step}
 use Rattle.esql_plan.specs.declared.step.Step.TheVariants as step
 use Rattle.esql_plan.specs.declared.typed.TypedExpr.{TypedExpr}
+use Rattle.dissect_grok.specs.declared.cutter.Cutter.{Cutter}
+use Rattle.dissect_grok.specs.Patterns.{reading_of}
+use Rattle.dissect_grok.specs.Groks.{grok_of}
+use Rattle.plan_semantics.specs.Taken.{dissect_columns, columns_in_grok}
 use Rattle.plan_semantics.specs.Stats.{stats_columns}
-use Rattle.plan_semantics.specs.WellFormed.{AreOnce, source_makes, step_makes, AreMadeOnce}
+use Rattle.plan_semantics.specs.WellFormed.{AreOnce, new_ids, source_makes, step_makes, AreMadeOnce}
 use Rattle.row_semantics.specs.Sources.{columns_of_tables, columns_or_none}
 use Rattle.row_semantics.specs.Typed.{visible_named}
+use Rattle.query_semantics.specs.Appended.{FoundPolicy, policy_named, matched_name, FieldTaken, fields_taken, taken_columns, taken_numbers}
 use Rattle.query_semantics.specs.Calls.{AggregateCall, calls_of}
 use Rattle.query_semantics.specs.Cuts.{last_count}
-use Rattle.query_semantics.specs.Writings.{Writing, column_at, typed_in, column_of_typed, write_input_by, write_input}
+use Rattle.query_semantics.specs.Writings.{Writing, column_at, typed_in, column_of_typed, write_input_by, write_input, input_of}
+use Rattle.query_semantics.specs.WrittenAppended.{new_columns, write_new, dissect_cutters, grok_cutters, write_matched, write_policy}
 use Rattle.query_semantics.specs.WrittenStats.{Flag, flag_typed, flagged_typed, write_typed, write_flag, flag_of, write_call, write_calls, write_before, write_all_before, CallInput, all_inputs, GroupInput, write_groups, group_inputs, write_grouping, field_typed, write_field_by, write_stats_field, write_stats_fields, write_stats}
 use Rattle.query_semantics.specs.Written.{write_field, write_fields, write_keys, keys_in_plan, write_expand_of, write_kind, write_command, numbered_from, scan_column, source_in_plan, write_source, writing_of_columns, writing_of}
 use Rattle.query_semantics.proofs.Squares.{map_map}
@@ -39,6 +49,7 @@ use Rattle.written_laws.proofs.Inputs.{write_inputs}
 use Rattle.written_laws.proofs.Commands.{expr_of_key}
 use Rattle.written_laws.proofs.Consecutive.{AreFrom}
 use Rattle.written_laws.proofs.GroupingFormed.{new_aggregates, new_groups, columns_from, length_columns}
+use Rattle.written_laws.proofs.NewMade.{ids_from, length-new_ids}
 use Rattle.written_laws.proofs.Sources.{eq_above, all_below}
 use Rattle.written_laws.proofs.SourceFormed.{once}
 
@@ -192,21 +203,47 @@ module _ (given : List ColId) where
       stats_fields_numbered text writing.visible with_inputs.next fields grouped
       (subst (λ (count : ℕ). AreNumbered given grouped.steps (with_inputs.next + count)) (length_columns with_inputs.next calls inputs) own)
 
-  kind_numbered : (text : List ℕ) (node : NodeId) (kind : CommandKind) (writing : Writing) → IsNumberedFrom writing → IsNumberedFrom (write_kind text node kind writing)
-  kind_numbered text node (Filter condition) writing numbered = same_numbered writing.steps (step.Filter node (typed_in writing condition)) writing.next refl numbered
-  kind_numbered text node (Eval fields) writing numbered = fields_numbered text fields writing numbered
-  kind_numbered text node (Sort keys) writing numbered =
+  -- DISSECT, GROK and ENRICH
+  new_numbered : (columns : List Column) (cutters : List Cutter) (step_to : List NewColumn → Step) → ((to : List NewColumn) → step_makes (step_to to) ≡ new_ids to) → (writing : Writing)
+      → IsNumberedFrom writing → IsNumberedFrom (write_new columns cutters step_to writing)
+  new_numbered columns cutters step_to makes writing numbered =
+      let to : List NewColumn = new_columns writing.next columns in
+      let last : Step = step_to to in
+      subst (λ (count : ℕ). AreNumbered given (writing.steps ++ last ∷ []) (writing.next + count)) (length-new_ids writing.next columns)
+      (grouping_numbered writing.steps last (new_ids to) writing.next (makes to) (ids_from writing.next columns) numbered)
+
+  matched_numbered : (policy : FoundPolicy) (found : Option OutColumn) (taken : List FieldTaken) (writing : Writing) → IsNumberedFrom writing → IsNumberedFrom (write_matched policy found taken writing)
+  matched_numbered policy None taken writing numbered = numbered
+  matched_numbered policy (Some column) taken writing numbered =
+      new_numbered (taken_columns taken) [] (step.Enrich policy.number column.id (taken_numbers taken)) (λ to. refl) writing numbered
+
+  policy_numbered : (found : Option FoundPolicy) (on : Option NameAt) (items : Option (List EnrichItem)) (writing : Writing) → IsNumberedFrom writing → IsNumberedFrom (write_policy found on items writing)
+  policy_numbered None on items writing numbered = numbered
+  policy_numbered (Some policy) on items writing numbered =
+      matched_numbered policy (visible_named writing.visible (matched_name policy.shape on)) (fields_taken policy.shape.fields items) writing numbered
+
+  kind_numbered : (text : List ℕ) (policies : List PolicyShape) (node : NodeId) (kind : CommandKind) (writing : Writing) → IsNumberedFrom writing → IsNumberedFrom (write_kind text policies node kind writing)
+  kind_numbered text policies node (Filter condition) writing numbered = same_numbered writing.steps (step.Filter node (typed_in writing condition)) writing.next refl numbered
+  kind_numbered text policies node (Eval fields) writing numbered = fields_numbered text fields writing numbered
+  kind_numbered text policies node (Sort keys) writing numbered =
       let after : Writing = write_keys keys writing in
       same_numbered after.steps (step.Sort (keys_in_plan keys writing)) after.next refl (inputs_numbered expr_of_key keys writing numbered)
-  kind_numbered text node (Limit count) writing numbered = same_numbered writing.steps (step.Limit count) writing.next refl numbered
-  kind_numbered text node (Expand column) writing numbered = expand_numbered column.name writing (visible_named writing.visible column.name) numbered
-  kind_numbered text node (Stats fields groups) writing numbered = stats_numbered text fields groups writing numbered
-  kind_numbered text node other writing numbered = numbered
+  kind_numbered text policies node (Limit count) writing numbered = same_numbered writing.steps (step.Limit count) writing.next refl numbered
+  kind_numbered text policies node (Expand column) writing numbered = expand_numbered column.name writing (visible_named writing.visible column.name) numbered
+  kind_numbered text policies node (Stats fields groups) writing numbered = stats_numbered text fields groups writing numbered
+  kind_numbered text policies node (Dissect input pattern separator) writing numbered =
+      new_numbered (dissect_columns pattern.text separator) (dissect_cutters (reading_of pattern.text separator))
+      (step.Dissect node (input_of writing input) (length writing.cutters) pattern.text separator) (λ to. refl) (write_input writing input) (input_numbered writing input numbered)
+  kind_numbered text policies node (Grok input pattern) writing numbered =
+      new_numbered (columns_in_grok pattern.text) (grok_cutters (grok_of pattern.text))
+      (step.Grok node (input_of writing input) (length writing.cutters) pattern.text) (λ to. refl) (write_input writing input) (input_numbered writing input numbered)
+  kind_numbered text policies node (Enrich policy on fields) writing numbered = policy_numbered (policy_named policies policy.name) on fields writing numbered
+  kind_numbered text policies node other writing numbered = numbered
 
-  commands_numbered : (text : List ℕ) (commands : List Command) (writing : Writing) → IsNumberedFrom writing → IsNumberedFrom (fold (write_command text) writing commands)
-  commands_numbered text [] writing numbered = numbered
-  commands_numbered text (command ∷ commands) writing numbered =
-      commands_numbered text commands (write_command text writing command) (kind_numbered text command.node command.kind writing numbered)
+  commands_numbered : (text : List ℕ) (policies : List PolicyShape) (commands : List Command) (writing : Writing) → IsNumberedFrom writing → IsNumberedFrom (fold (write_command text policies) writing commands)
+  commands_numbered text policies [] writing numbered = numbered
+  commands_numbered text policies (command ∷ commands) writing numbered =
+      commands_numbered text policies commands (write_command text policies writing command) (kind_numbered text policies command.node command.kind writing numbered)
 
 -- the source
 abbrev scanned : List Column → List ColId
@@ -230,6 +267,6 @@ source_numbered text catalog (OneRow node span fields) = fields_numbered [] text
 pub written_made_once : (text : List ℕ) (catalog : Catalog) (query : Query) → AreMadeOnce (source_in_plan catalog query.source) (writing_of text catalog query).steps
 written_made_once text catalog query =
     let given : List ColId = source_makes (source_in_plan catalog query.source) in
-    let before : Writing = fold (write_command text) (write_source text catalog query.source) query.commands in
+    let before : Writing = fold (write_command text catalog.policies) (write_source text catalog query.source) query.commands in
     (same_numbered given before.steps (step.Limit (last_count query)) before.next refl
-    (commands_numbered given text query.commands (write_source text catalog query.source) (source_numbered text catalog query.source))).once
+    (commands_numbered given text catalog.policies query.commands (write_source text catalog query.source) (source_numbered text catalog query.source))).once

@@ -33,7 +33,7 @@ use Rattle.written_laws.proofs.FieldsRead.{call_kind, field_reads}
 use Rattle.written_laws.proofs.GroupingFormed.{AreNumbered, numbered_kept, numbered_parts}
 use Rattle.written_laws.proofs.MadeOnce.{turned}
 use Rattle.written_laws.proofs.NodesCounted.{placed, one_at}
-use Rattle.written_laws.proofs.StepsFormed.{IsFormed, number_behind, typed_formed, typed_made, typed_kept, seen_formed}
+use Rattle.written_laws.proofs.StepsFormed.{Start, IsFormed, number_behind, typed_formed, typed_made, typed_kept, seen_formed}
 
 -- the columns of calls ----------------------------------------------------------------------------------------------------------------
 
@@ -95,14 +95,14 @@ abbrev pub FieldDiffers : StatsField → Type 0
 FieldDiffers stats = (node : NodeId) → placed node (nodes_of_expr stats.field.expr) ≤ 1
 
 -- what has been written is well formed, and no column is lost
-pub record KeepsFormed (made : List MadeColumn) (first : ℕ) (before after : Writing) : Type 0 where
-  pub formed : IsFormed made first after
+pub record KeepsFormed (made : List MadeColumn) (start : Start) (before after : Writing) : Type 0 where
+  pub formed : IsFormed made start after
   pub kept : AreKept (steps_made made before.steps) (steps_made made after.steps)
 
-module _ (made : List MadeColumn) (first : ℕ) (context : Context) (columns : List Column) (before : List OutColumn) (shows : columns ≡ columns_of before) where
-  field_formed : (number : ℕ) (stats : StatsField) (writing : Writing) → IsFormed made first writing → FieldJudged context columns stats → FieldDiffers stats
+module _ (made : List MadeColumn) (start : Start) (context : Context) (columns : List Column) (before : List OutColumn) (shows : columns ≡ columns_of before) where
+  field_formed : (number : ℕ) (stats : StatsField) (writing : Writing) → IsFormed made start writing → FieldJudged context columns stats → FieldDiffers stats
       → AreNumbered columns (steps_made made writing.steps) number (calls_of stats.field.expr)
-      → KeepsFormed made first writing (write_stats_field context.text before number stats writing)
+      → KeepsFormed made start writing (write_stats_field context.text before number stats writing)
   field_formed number stats writing formed judged differs are = by_found (column_of_typed typed) refl
     where
       expr : Expr
@@ -127,33 +127,33 @@ module _ (made : List MadeColumn) (first : ℕ) (context : Context) (columns : L
           (length writing.whole) (length writing.free)
 
       by_found : (found : Option ColId) → column_of_typed typed ≡ found
-          → KeepsFormed made first writing (record (write_field_by found writing expr typed) { visible = put_visible writing.visible name typed.kind (input_by found writing.next).0 })
+          → KeepsFormed made start writing (record (write_field_by found writing expr typed) { visible = put_visible writing.visible name typed.kind (input_by found writing.next).0 })
       by_found (Some id) is = record {
-        formed = seen_formed made first writing formed (put_visible writing.visible name typed.kind id.0)
+        formed = seen_formed made start writing formed (put_visible writing.visible name typed.kind id.0)
             (put_made so_far writing.visible name typed.kind id.0 formed.columns.seen
             (All-head (ReadIsMade so_far) (record { id = id; kind = typed.kind }) [] (All-same (ReadIsMade so_far) _ _ (sym (column_read typed id is)) reads)));
         kept = λ column there. there;
       }
       by_found None is =
           let after : Writing = write_typed writing expr typed in
-          let makes : IsFormed made first after = typed_formed made first writing formed expr typed (λ bounds whole free nodes. record {
+          let makes : IsFormed made start after = typed_formed made start writing formed expr typed (λ bounds whole free nodes. record {
             fits = expr_fits expr visible (field_scope context.accepts columns) judged.kind shows judged.is (length writing.whole) (length writing.free) bounds.whole bounds.free
                 (number_behind bounds.whole writing.whole _ whole) (number_behind bounds.free writing.free _ free);
             reads = reads;
             nodes = nodes;
           }) in
           record {
-            formed = seen_formed made first after makes (put_visible writing.visible name typed.kind writing.next)
-                (put_made (steps_made made after.steps) writing.visible name typed.kind writing.next makes.columns.seen (typed_made made first writing formed expr typed));
-            kept = typed_kept made first writing formed expr typed;
+            formed = seen_formed made start after makes (put_visible writing.visible name typed.kind writing.next)
+                (put_made (steps_made made after.steps) writing.visible name typed.kind writing.next makes.columns.seen (typed_made made start writing formed expr typed));
+            kept = typed_kept made start writing formed expr typed;
           }
 
   abbrev Judged : StatsField → Type 0
   Judged = FieldJudged context columns
 
-  pub fields_formed : (number : ℕ) (fields : List StatsField) (writing : Writing) → IsFormed made first writing → All Judged fields → All FieldDiffers fields
+  pub fields_formed : (number : ℕ) (fields : List StatsField) (writing : Writing) → IsFormed made start writing → All Judged fields → All FieldDiffers fields
       → AreNumbered columns (steps_made made writing.steps) number (flat_map calls_in_field fields)
-      → KeepsFormed made first writing (write_stats_fields context.text before number fields writing)
+      → KeepsFormed made start writing (write_stats_fields context.text before number fields writing)
   fields_formed number [] writing formed judged differ are = record { formed = formed; kept = λ column there. there }
   fields_formed number (stats ∷ fields) writing formed judged differ are =
       let next : Writing = write_stats_field context.text before number stats writing in

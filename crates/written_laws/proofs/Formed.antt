@@ -23,9 +23,9 @@ use Rattle.written_laws.proofs.Apart.{source_distinct}
 use Rattle.written_laws.proofs.ColumnsOnce.{written_made_once}
 use Rattle.written_laws.proofs.Numbers.{all_at}
 use Rattle.written_laws.proofs.NodesWritten.{commands_once, written_below}
-use Rattle.written_laws.proofs.StepsFormed.{IsNodeBelow, IsWithin, IsFormed, limit_formed, steps_show}
+use Rattle.written_laws.proofs.StepsFormed.{Start, IsNodeBelow, IsWithin, IsFormed, limit_formed, steps_show}
 use Rattle.written_laws.proofs.CommandsFormed.{commands_formed}
-use Rattle.written_laws.proofs.SourceFormed.{count_made, source_formed, source_stands}
+use Rattle.written_laws.proofs.SourceFormed.{start_of, source_formed, source_stands}
 
 -- nodes are below a number where none from there on is among them
 all_below : (nodes : ℕ) (ones : List NodeId) → ((node : NodeId) → nodes ≤ node.0 → places node ones ≤ 0) → All (IsNodeBelow nodes) ones
@@ -44,21 +44,23 @@ all_below nodes (one ∷ ones) none =
         absurd (omega (arith, here, none one above))
 
 pub written_formed : (text : List ℕ) (catalog : Catalog) (query : Query) (columns : List Column) → IsCatalog catalog → IsNumbered query → shape_of text catalog query ≡ Ok columns
-    → IsWellFormed catalog (written_of text catalog query).whole (written_of text catalog query).free (written_of text catalog query).plan
+    → IsWellFormed catalog (written_of text catalog query).whole (written_of text catalog query).free (written_of text catalog query).cutters (written_of text catalog query).plan
 written_formed text catalog query columns is_catalog numbered is =
     let context : Context = record { text = text; catalog = catalog; accepts = is_accepted } in
     let found = found_of (shape_of_source context query.source) (shape_of_commands context query.commands) columns is in
     let writing : Writing = writing_of text catalog query in
     let made : List MadeColumn = source_made (source_in_plan catalog query.source) in
-    let first : ℕ = count_made context query.source in
-    let commands = commands_formed made first context query.commands found.value columns (write_source text catalog query.source) (source_formed context query.source found.value found.is)
+    let start : Start = start_of context query.source in
+    let commands = commands_formed made start context refl is_catalog query.commands found.value columns (write_source text catalog query.source) (source_formed context query.source found.value found.is)
     (source_shows context query.source found.value found.is) (source_distinct context query.source found.value found.is)
     (λ node. commands_once node query numbered) found.next_is in
-    let formed : IsFormed made first writing = limit_formed made first _ commands (last_count query) in
-    let bounds : Bounds = bounds_of writing.whole writing.free (written_of text catalog query).plan in
-    let within : IsWithin bounds writing = record {
+    let formed : IsFormed made start writing = limit_formed made start _ commands (last_count query) in
+    let bounds : Bounds = bounds_of catalog writing.whole writing.free writing.cutters (written_of text catalog query).plan in
+    let within : IsWithin start bounds writing = record {
+      catalog = refl;
       whole = all_at writing.whole;
       free = all_at writing.free;
+      cutters = all_at writing.cutters;
       next = omega arith;
       nodes = all_below query.nodes (flat_map step_nodes writing.steps) (λ node above. written_below node text catalog query numbered above);
     } in

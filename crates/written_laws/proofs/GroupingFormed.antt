@@ -28,7 +28,7 @@ use Rattle.written_laws.proofs.FieldsRead.{call_kind}
 use Rattle.written_laws.proofs.MadeOnce.{AreMade, IsMadeBelow, IsOnce, IsOtherThan, none_made_once, once_cons, made_first, made_later, is_made}
 use Rattle.written_laws.proofs.Sources.{eq_above}
 use Rattle.query_semantics.proofs.Named.{eq_below}
-use Rattle.written_laws.proofs.StepsFormed.{IsNodeBelow, IsWithin, IsFormed, steps_made-push, steps_stand-push, split_nodes}
+use Rattle.written_laws.proofs.StepsFormed.{Start, IsNodeBelow, IsWithin, IsFormed, steps_made-push, steps_stand-push, split_nodes}
 
 -- the columns of calls, on from a number, are made with the kinds of the calls
 abbrev pub AreNumbered : List Column → List MadeColumn → ℕ → List AggregateCall → Type 0
@@ -220,13 +220,13 @@ same_length (id ∷ ids) (column ∷ columns) same = ap (λ (n : ℕ). suc n) (s
 -- the step --------------------------------------------------------------------------------------------------------------------------
 
 -- the step is well formed, and its columns are made behind it
-pub record GroupingIsFormed (made : List MadeColumn) (first : ℕ) (columns : List Column) (calls : List AggregateCall) (inputs : List CallInput) (groups : List GroupInput) (writing : Writing) : Type 0 where
-  pub formed : IsFormed made first (write_grouping inputs groups writing)
+pub record GroupingIsFormed (made : List MadeColumn) (start : Start) (columns : List Column) (calls : List AggregateCall) (inputs : List CallInput) (groups : List GroupInput) (writing : Writing) : Type 0 where
+  pub formed : IsFormed made start (write_grouping inputs groups writing)
   pub calls_are : AreNumbered columns (steps_made made (write_grouping inputs groups writing).steps) writing.next calls
   pub groups_are : AreGroupsNumbered (steps_made made (write_grouping inputs groups writing).steps) (writing.next + length inputs) groups
 
-module _ (made : List MadeColumn) (first : ℕ) (columns : List Column) (calls : List AggregateCall) (inputs : List CallInput) (groups : List GroupInput) (writing : Writing)
-    (formed : IsFormed made first writing) (are : AreCallsMade columns (steps_made made writing.steps) calls inputs)
+module _ (made : List MadeColumn) (start : Start) (columns : List Column) (calls : List AggregateCall) (inputs : List CallInput) (groups : List GroupInput) (writing : Writing)
+    (formed : IsFormed made start writing) (are : AreCallsMade columns (steps_made made writing.steps) calls inputs)
     (all : All (λ (input : GroupInput). IsMadeAs (steps_made made writing.steps) input.id input.kind) groups) where
   abbrev so_far : List MadeColumn
   so_far = steps_made made writing.steps
@@ -271,7 +271,7 @@ module _ (made : List MadeColumn) (first : ℕ) (columns : List Column) (calls :
     once = from_once number_of writing.next (stats_columns aggregates group_columns) (columns_from writing.next inputs groups);
   }
 
-  pub grouping_formed : GroupingIsFormed made first columns calls inputs groups writing
+  pub grouping_formed : GroupingIsFormed made start columns calls inputs groups writing
   grouping_formed =
       let is : steps_made made (writing.steps ++ last ∷ []) ≡ behind = steps_made-push made writing.steps last in
       let next : ℕ = writing.next + (length inputs + length groups) in
@@ -280,8 +280,8 @@ module _ (made : List MadeColumn) (first : ℕ) (columns : List Column) (calls :
           columns = subst (λ (these : List MadeColumn). AreMade these next []) (sym is) behind_made;
           later = omega (arith, formed.later);
           stand = λ bounds within.
-              let nodes = split_nodes made first writing formed bounds.nodes last within.nodes in
-              let before : IsWithin bounds writing = record { whole = within.whole; free = within.free; next = omega (arith, within.next); nodes = nodes.0 } in
+              let nodes = split_nodes made start writing formed bounds.nodes last within.nodes in
+              let before : IsWithin start bounds writing = record { catalog = within.catalog; whole = within.whole; free = within.free; cutters = within.cutters; next = omega (arith, within.next); nodes = nodes.0 } in
               steps_stand-push bounds made writing.steps last (formed.stand bounds before) (stats_stand bounds within.next nodes.1);
         };
         calls_are = subst (λ (these : List MadeColumn). AreNumbered columns these writing.next calls) (sym is)

@@ -1,3 +1,4 @@
+pub mod NewColumns
 pub mod Stages
 pub mod StatsInputs
 pub mod StatsGroups
@@ -9,12 +10,16 @@ pub mod StatsStands
 pub mod StatsWhole
 pub mod StatsShown
 pub mod Inputs
+pub mod AppendedJudged
+pub mod PoliciesFound
+pub mod AppendedStands
 pub mod Commands
 pub mod Sources
 pub mod Shown
 pub mod Whole
 pub mod NamesKept
 pub mod Apart
+pub mod RowsNamed
 pub mod Limits
 pub mod NodesTyped
 pub mod NodesCounted
@@ -39,8 +44,10 @@ pub mod FieldsRead
 pub mod CallsCounted
 pub mod StatsJudged
 pub mod Consecutive
+pub mod NewMade
 pub mod CallsFormed
 pub mod GroupingFormed
 pub mod FieldsFormed
 pub mod StatsFormed
+pub mod AppendedFormed
 pub mod CommandsFormed

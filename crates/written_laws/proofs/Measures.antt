@@ -2,32 +2,43 @@
 -- query's nodes at most.
 use Rattle.std.proofs.Common.{◌≡◌, ℕ, ◌+◌, ◌≤◌, ◌<◌, List, [], ◌∷◌, ◌++◌, map, length, fold, Option, Some, None, ap, arith}
 use Rattle.std.specs.List.{flat_map}
+use Rattle.esql_types.specs.declared.names.Column.{Column}
 use Rattle.esql_types.specs.declared.names.NodeId.{NodeId}
 use Rattle.esql_types.specs.declared.names.ColId.{ColId}
 use Rattle.esql_ast.specs.declared.expr.Expr.{Expr}
 use Rattle.esql_ast.specs.declared.query.Condition.{Condition}
+use Rattle.esql_ast.specs.declared.query.EnrichItem.{EnrichItem}
+use Rattle.esql_ast.specs.declared.query.NameAt.{NameAt}
 use Rattle.esql_ast.specs.declared.query.Field.{Field}
 use Rattle.esql_ast.specs.declared.query.StatsField.{StatsField}
 use Rattle.esql_ast.specs.declared.query.Query.{Query}
 use Rattle.esql_ast.specs.declared.query.Command.{Command}
 use Rattle.esql_ast.specs.declared.query.CommandKind.{CommandKind}
-use Rattle.esql_ast.specs.declared.query.CommandKind.TheVariants.{Filter, Eval, Sort, Limit, Expand, Stats}
+use Rattle.esql_ast.specs.declared.query.CommandKind.TheVariants.{Filter, Eval, Sort, Limit, Expand, Stats, Dissect, Grok, Enrich}
 use Rattle.esql_ast.specs.declared.query.SourceCommand.{SourceCommand}
 use Rattle.esql_ast.specs.declared.query.SourceCommand.TheVariants.{Tables, OneRow}
 use Rattle.esql_ast.specs.Nodes.{nodes_of_expr, nodes_of_field, nodes_of_condition, nodes_of_stats, nodes_of_kind, nodes_of_command, nodes_of_source, nodes_of}
 use Rattle.esql_plan.specs.declared.catalog.Catalog.{Catalog}
+use Rattle.esql_plan.specs.declared.catalog.PolicyShape.{PolicyShape}
 use Rattle.esql_plan.specs.declared.plan.OutColumn.{OutColumn}
 use Rattle.esql_plan.specs.declared.step.Aggregate.{Aggregate}
+use Rattle.esql_plan.specs.declared.step.NewColumn.{NewColumn}
 use Rattle.esql_plan.specs.declared.step.Step.{Step}
 use Rattle.esql_plan.specs.declared.step.Step.TheVariants as step
 use Rattle.esql_plan.specs.declared.typed.TypedExpr.{TypedExpr}
+use Rattle.dissect_grok.specs.declared.cutter.Cutter.{Cutter}
+use Rattle.dissect_grok.specs.Patterns.{reading_of}
+use Rattle.dissect_grok.specs.Groks.{grok_of}
+use Rattle.plan_semantics.specs.Taken.{dissect_columns, columns_in_grok}
 use Rattle.plan_semantics.specs.WellFormed.{nodes_of as typed_nodes_of, step_nodes}
 use Rattle.plan_semantics.proofs.OwnNodes.{places}
 use Rattle.row_semantics.specs.Forms.{read_by}
 use Rattle.row_semantics.specs.Typed.{visible_named}
+use Rattle.query_semantics.specs.Appended.{FoundPolicy, policy_named, matched_name, FieldTaken, fields_taken, taken_columns, taken_numbers}
 use Rattle.query_semantics.specs.Calls.{AggregateCall, calls_of}
 use Rattle.query_semantics.specs.Cuts.{last_count}
-use Rattle.query_semantics.specs.Writings.{Writing, column_at, typed_in, column_of_typed, write_input_by, write_input}
+use Rattle.query_semantics.specs.Writings.{Writing, column_at, typed_in, column_of_typed, write_input_by, write_input, input_of}
+use Rattle.query_semantics.specs.WrittenAppended.{new_columns, write_new, dissect_cutters, write_dissect, grok_cutters, write_grok, write_matched, write_policy}
 use Rattle.query_semantics.specs.WrittenStats.{Flag, flag_typed, flagged_typed, write_flag, flag_of, write_call, CallInput, write_calls, inputs_of_calls, write_before, inputs_before, write_all_before, all_inputs, aggregates_from, groups_from, GroupInput, write_groups, group_inputs, write_grouping, call_columns, field_typed, write_field_by, write_stats_field, write_stats_fields, write_stats}
 use Rattle.query_semantics.specs.Written.{write_field, write_fields, write_keys, keys_in_plan, write_expand_of, write_kind, write_command, write_source, writing_of_columns, writing_of}
 use Rattle.written_laws.proofs.Inputs.{write_inputs}
@@ -272,32 +283,70 @@ module _ (node : NodeId) (count : List Step → ℕ) (Knows : List Step → Flag
         placed-append node (flat_map nodes_of_stats fields) (flat_map nodes_of_field groups),
       )
 
+  -- DISSECT, GROK and ENRICH ----------------------------------------------------------------------------------------------------
+
+  new_counts : (columns : List Column) (cutters : List Cutter) (step_to : List NewColumn → Step) (writing : Writing)
+      → in_writing (write_new columns cutters step_to writing) ≤ in_writing writing + places node (step_nodes (step_to (new_columns writing.next columns)))
+  new_counts columns cutters step_to writing = measure.pushed writing.steps (step_to (new_columns writing.next columns))
+
+  dissect_counts : (own : NodeId) (input : Expr) (pattern separator : List ℕ) (writing : Writing)
+      → in_writing (write_dissect own input pattern separator writing) ≤ in_writing writing + placed node (nodes_of_expr input)
+  dissect_counts own input pattern separator writing =
+      omega (
+        arith,
+        input_counts writing input,
+        new_counts (dissect_columns pattern separator) (dissect_cutters (reading_of pattern separator))
+            (step.Dissect own (input_of writing input) (length writing.cutters) pattern separator) (write_input writing input),
+      )
+
+  -- all columns of a GROK fail at the command's node
+  grok_counts : (own : NodeId) (input : Expr) (pattern : List ℕ) (writing : Writing)
+      → in_writing (write_grok own input pattern writing) ≤ in_writing writing + (one_at node own + placed node (nodes_of_expr input))
+  grok_counts own input pattern writing =
+      omega (
+        arith,
+        input_counts writing input,
+        new_counts (columns_in_grok pattern) (grok_cutters (grok_of pattern)) (step.Grok own (input_of writing input) (length writing.cutters) pattern) (write_input writing input),
+      )
+
+  matched_counts : (policy : FoundPolicy) (found : Option OutColumn) (taken : List FieldTaken) (writing : Writing) → in_writing (write_matched policy found taken writing) ≤ in_writing writing
+  matched_counts policy None taken writing = omega arith
+  matched_counts policy (Some column) taken writing = omega (arith, new_counts (taken_columns taken) [] (step.Enrich policy.number column.id (taken_numbers taken)) writing)
+
+  policy_counts : (found : Option FoundPolicy) (on : Option NameAt) (items : Option (List EnrichItem)) (writing : Writing) → in_writing (write_policy found on items writing) ≤ in_writing writing
+  policy_counts None on items writing = omega arith
+  policy_counts (Some policy) on items writing =
+      matched_counts policy (visible_named writing.visible (matched_name policy.shape on)) (fields_taken policy.shape.fields items) writing
+
   -- commands --------------------------------------------------------------------------------------------------------------------
 
-  kind_counts : (text : List ℕ) (own : NodeId) (kind : CommandKind) (writing : Writing)
-      → in_writing (write_kind text own kind writing) ≤ in_writing writing + (one_at node own + placed node (nodes_of_kind kind))
-  kind_counts text own (Filter condition) writing =
+  kind_counts : (text : List ℕ) (policies : List PolicyShape) (own : NodeId) (kind : CommandKind) (writing : Writing)
+      → in_writing (write_kind text policies own kind writing) ≤ in_writing writing + (one_at node own + placed node (nodes_of_kind kind))
+  kind_counts text policies own (Filter condition) writing =
       omega (
         arith,
         typed_counts writing condition,
         measure.pushed writing.steps (step.Filter own (typed_in writing condition)),
         places-append node (typed_nodes_of (typed_in writing condition)) (own ∷ []),
       )
-  kind_counts text own (Eval fields) writing = omega (arith, fields_count text fields writing)
-  kind_counts text own (Limit count) writing = omega (arith, measure.pushed writing.steps (step.Limit count))
-  kind_counts text own (Sort keys) writing = omega (arith, inputs_count expr_of_key keys writing, measure.pushed (write_keys keys writing).steps (step.Sort (keys_in_plan keys writing)))
-  kind_counts text own (Expand column) writing = omega (arith, expand_counts column.name writing (visible_named writing.visible column.name))
-  kind_counts text own (Stats fields groups) writing = omega (arith, stats_counts text fields groups writing)
-  kind_counts text own other writing = omega arith
+  kind_counts text policies own (Eval fields) writing = omega (arith, fields_count text fields writing)
+  kind_counts text policies own (Limit count) writing = omega (arith, measure.pushed writing.steps (step.Limit count))
+  kind_counts text policies own (Sort keys) writing = omega (arith, inputs_count expr_of_key keys writing, measure.pushed (write_keys keys writing).steps (step.Sort (keys_in_plan keys writing)))
+  kind_counts text policies own (Expand column) writing = omega (arith, expand_counts column.name writing (visible_named writing.visible column.name))
+  kind_counts text policies own (Stats fields groups) writing = omega (arith, stats_counts text fields groups writing)
+  kind_counts text policies own (Dissect input pattern separator) writing = omega (arith, dissect_counts own input pattern.text separator writing)
+  kind_counts text policies own (Grok input pattern) writing = omega (arith, grok_counts own input pattern.text writing)
+  kind_counts text policies own (Enrich policy on fields) writing = omega (arith, policy_counts (policy_named policies policy.name) on fields writing)
+  kind_counts text policies own other writing = omega arith
 
-  commands_count : (text : List ℕ) (commands : List Command) (writing : Writing)
-      → in_writing (fold (write_command text) writing commands) ≤ in_writing writing + placed node (flat_map nodes_of_command commands)
-  commands_count text [] writing = omega arith
-  commands_count text (command ∷ commands) writing =
+  commands_count : (text : List ℕ) (policies : List PolicyShape) (commands : List Command) (writing : Writing)
+      → in_writing (fold (write_command text policies) writing commands) ≤ in_writing writing + placed node (flat_map nodes_of_command commands)
+  commands_count text policies [] writing = omega arith
+  commands_count text policies (command ∷ commands) writing =
       omega (
         arith,
-        kind_counts text command.node command.kind writing,
-        commands_count text commands (write_command text writing command),
+        kind_counts text policies command.node command.kind writing,
+        commands_count text policies commands (write_command text policies writing command),
         placed-append node (nodes_of_command command) (flat_map nodes_of_command commands),
       )
 
@@ -311,7 +360,7 @@ module _ (node : NodeId) (count : List Step → ℕ) (Knows : List Step → Flag
       omega (
         arith,
         source_counts text catalog query.source,
-        commands_count text query.commands (write_source text catalog query.source),
-        measure.pushed (fold (write_command text) (write_source text catalog query.source) query.commands).steps (step.Limit (last_count query)),
+        commands_count text catalog.policies query.commands (write_source text catalog query.source),
+        measure.pushed (fold (write_command text catalog.policies) (write_source text catalog query.source) query.commands).steps (step.Limit (last_count query)),
         placed-append node (nodes_of_source query.source) (flat_map nodes_of_command query.commands),
       )

@@ -19,7 +19,7 @@ use Rattle.esql_plan.specs.Functions.{rule_of}
 use Rattle.esql_plan.specs.Rules.{truth_in}
 use Rattle.esql_plan.specs.Values.{Valued, NumberedRow, silent, failures_at, is_met, value_of_typed}
 use Rattle.esql_plan.proofs.TypedFolds.{value_of_constant, value_of_call}
-use Rattle.plan_semantics.specs.Tables.{TableHeld, source_rows, with_cell}
+use Rattle.plan_semantics.specs.Tables.{CatalogHeld, source_rows, with_cell}
 use Rattle.plan_semantics.specs.Steps.{step_gives, rows_after}
 use Rattle.plan_semantics.specs.Parts.{FalliblePart, Parted, parts_by, case_causes, own_part, parted, over_rows, step_parts, parts_after, fails_at, count_of, IsOrderly}
 use Rattle.plan_semantics.specs.WellFormed.{nodes_of, step_nodes}
@@ -60,12 +60,12 @@ flag_cell node condition row =
     (case_is_flag (is_met (truth_in (value_of_typed condition row).cell)) own (ap (λ (this : Valued). this.cell) (value_of_constant (true_at node) row (value.Bool true ∷ []) refl)))
 
 -- the rows after a step that makes a column
-given_all : (P : NumberedRow → Type 0) (to : ColId) (expr : TypedExpr) (rows : List NumberedRow) → All (λ row. P (with_cell row to.0 (value_of_typed expr row).cell)) rows
-    → All P (flat_map (step_gives (Eval to expr)) rows)
-given_all P to expr [] all = All-nil P
-given_all P to expr (row ∷ rows) all =
+given_all : (held : CatalogHeld) (P : NumberedRow → Type 0) (to : ColId) (expr : TypedExpr) (rows : List NumberedRow) → All (λ row. P (with_cell row to.0 (value_of_typed expr row).cell)) rows
+    → All P (flat_map (step_gives held (Eval to expr)) rows)
+given_all held P to expr [] all = All-nil P
+given_all held P to expr (row ∷ rows) all =
     let Given : NumberedRow → Type 0 = λ row. P (with_cell row to.0 (value_of_typed expr row).cell) in
-    All-cons P (with_cell row to.0 (value_of_typed expr row).cell) (flat_map (step_gives (Eval to expr)) rows) (All-head Given row rows all) (given_all P to expr rows (All-tail Given row rows all))
+    All-cons P (with_cell row to.0 (value_of_typed expr row).cell) (flat_map (step_gives held (Eval to expr)) rows) (All-head Given row rows all) (given_all held P to expr rows (All-tail Given row rows all))
 
 all_rows : (P : NumberedRow → Type 0) (rows : List NumberedRow) → ((row : NumberedRow) → P row) → All P rows
 all_rows P [] holds = All-nil P
@@ -114,27 +114,27 @@ module _ (flag : Flag) (argument : TypedExpr) where
 
 -- the parts of steps that fail at a node ----------------------------------------------------------------------------------------
 
-module _ (node : NodeId) (start : List NumberedRow) where
+module _ (node : NodeId) (held : CatalogHeld) (start : List NumberedRow) where
   -- in how many parts of steps the node fails
   abbrev failing : List Step → ℕ
-  failing steps = count_of (fails_at node) (parts_after steps start)
+  failing steps = count_of (fails_at node) (parts_after held steps start)
 
   abbrev Knows : List Step → Flag → Type 0
-  Knows steps flag = All (IsFlagAt flag.id) (rows_after steps start)
+  Knows steps flag = All (IsFlagAt flag.id) (rows_after held steps start)
 
-  failing_last : (steps : List Step) (last : Step) → failing (steps ++ last ∷ []) ≡ failing steps + count_of (fails_at node) (step_parts last (rows_after steps start))
+  failing_last : (steps : List Step) (last : Step) → failing (steps ++ last ∷ []) ≡ failing steps + count_of (fails_at node) (step_parts last (rows_after held steps start))
   failing_last steps last =
-      ap (count_of (fails_at node)) (parts_after-append steps (last ∷ []) start)
-      ∙ count_of-append (fails_at node) (parts_after steps start) (parts_after (last ∷ []) (rows_after steps start))
-      ∙ ap (λ (parts : List (List Failure)). failing steps + count_of (fails_at node) parts) (append-nil (step_parts last (rows_after steps start)))
+      ap (count_of (fails_at node)) (parts_after-append held steps (last ∷ []) start)
+      ∙ count_of-append (fails_at node) (parts_after held steps start) (parts_after held (last ∷ []) (rows_after held steps start))
+      ∙ ap (λ (parts : List (List Failure)). failing steps + count_of (fails_at node) parts) (append-nil (step_parts last (rows_after held steps start)))
 
   pushed : (steps : List Step) (last : Step) → failing (steps ++ last ∷ []) ≤ failing steps + places node (step_nodes last)
   pushed steps last =
-      let rows : List NumberedRow = rows_after steps start in
+      let rows : List NumberedRow = rows_after held steps start in
       omega (
         arith,
         failing_last steps last,
-        steps_count node (last ∷ []) rows,
+        steps_count node held (last ∷ []) rows,
         ap (count_of (fails_at node)) (append-nil (step_parts last rows)),
         ap (places node) (append-nil (step_nodes last)),
       )
@@ -142,21 +142,21 @@ module _ (node : NodeId) (start : List NumberedRow) where
   flag_made : (steps : List Step) (flag : Flag) (condition : TypedExpr) → Knows (steps ++ Eval flag.id (flag_typed flag.node condition) ∷ []) flag
   flag_made steps flag condition =
       let typed : TypedExpr = flag_typed flag.node condition in
-      subst (All (IsFlagAt flag.id)) (sym (rows_after-append steps (Eval flag.id typed ∷ []) start))
-      (given_all (IsFlagAt flag.id) flag.id typed (rows_after steps start)
-      (all_rows _ (rows_after steps start) (λ row. subst IsFlagCell (sym (cell_put row flag.id.0 (value_of_typed typed row).cell)) (flag_cell flag.node condition row))))
+      subst (All (IsFlagAt flag.id)) (sym (rows_after-append held steps (Eval flag.id typed ∷ []) start))
+      (given_all held (IsFlagAt flag.id) flag.id typed (rows_after held steps start)
+      (all_rows _ (rows_after held steps start) (λ row. subst IsFlagCell (sym (cell_put row flag.id.0 (value_of_typed typed row).cell)) (flag_cell flag.node condition row))))
 
   flag_kept : (steps : List Step) (flag : Flag) (to : ColId) (expr : TypedExpr) → flag.id.0 < to.0 → Knows steps flag → Knows (steps ++ Eval to expr ∷ []) flag
   flag_kept steps flag to expr below known =
-      subst (All (IsFlagAt flag.id)) (sym (rows_after-append steps (Eval to expr ∷ []) start))
-      (given_all (IsFlagAt flag.id) to expr (rows_after steps start)
+      subst (All (IsFlagAt flag.id)) (sym (rows_after-append held steps (Eval to expr ∷ []) start))
+      (given_all held (IsFlagAt flag.id) to expr (rows_after held steps start)
       (All-weaker (IsFlagAt flag.id) (λ row. IsFlagAt flag.id (with_cell row to.0 (value_of_typed expr row).cell))
-      (λ row is. subst IsFlagCell (sym (same_put row to.0 (value_of_typed expr row).cell flag.id.0 below)) is) (rows_after steps start) known))
+      (λ row is. subst IsFlagCell (sym (same_put row to.0 (value_of_typed expr row).cell flag.id.0 below)) is) (rows_after held steps start) known))
 
   flagged : (steps : List Step) (flag : Flag) (to : ColId) (argument : TypedExpr) → Knows steps flag
       → failing (steps ++ Eval to (flagged_typed flag argument) ∷ []) ≤ failing steps + places node (nodes_of argument)
   flagged steps flag to argument known =
-      let rows : List NumberedRow = rows_after steps start in
+      let rows : List NumberedRow = rows_after held steps start in
       let parts : List FalliblePart = inner flag argument in
       let last : FalliblePart = own flag argument in
       omega (
@@ -172,7 +172,7 @@ module _ (node : NodeId) (start : List NumberedRow) where
   failing_measure : IsMeasure node failing Knows
   failing_measure = record { nothing = omega arith; pushed = pushed; made = flag_made; kept = flag_kept; flagged = flagged }
 
-pub written_orderly : (text : List ℕ) (catalog : Catalog) (query : Query) → IsNumbered query → (tables : List TableHeld) → IsOrderly (written_of text catalog query).plan tables
-written_orderly text catalog query numbered tables node =
-    let start : List NumberedRow = source_rows tables (source_in_plan catalog query.source) in
-    omega (arith, written_counts node (failing node start) (Knows node start) (failing_measure node start) text catalog query, nodes_once node query numbered)
+pub written_orderly : (text : List ℕ) (catalog : Catalog) (query : Query) → IsNumbered query → (held : CatalogHeld) → IsOrderly (written_of text catalog query).plan held
+written_orderly text catalog query numbered held node =
+    let start : List NumberedRow = source_rows held.tables (source_in_plan catalog query.source) in
+    omega (arith, written_counts node (failing node held start) (Knows node held start) (failing_measure node held start) text catalog query, nodes_once node query numbered)

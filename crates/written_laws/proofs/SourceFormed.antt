@@ -8,6 +8,7 @@ use Rattle.std.proofs.lemmas.List.Elements.{All-nil, All-cons, All-head, All-tai
 use Rattle.esql_types.specs.declared.names.Column.{Column}
 use Rattle.esql_ast.specs.declared.query.SourceCommand.{SourceCommand}
 use Rattle.esql_ast.specs.declared.query.SourceCommand.TheVariants.{Tables, OneRow}
+use Rattle.esql_plan.specs.declared.catalog.Catalog.{Catalog}
 use Rattle.esql_plan.specs.declared.plan.OutColumn.{OutColumn}
 use Rattle.esql_plan.specs.declared.plan.ScanColumn.{ScanColumn}
 use Rattle.plan_semantics.specs.WellFormed.{MadeColumn, made_as, source_made, Bounds, kind_named, IsScannedAs, SourceStands}
@@ -22,7 +23,7 @@ use Rattle.written_laws.proofs.Sources.{IsFrom, all_from, all_below}
 use Rattle.written_laws.proofs.ColumnsTyped.{OutIsMade}
 use Rattle.written_laws.proofs.TablesScanned.{HasKindOf, IsScanned, tables_scanned}
 use Rattle.written_laws.proofs.MadeOnce.{IsMadeBelow, IsOnce, IsOtherThan, none_made_once, once_cons}
-use Rattle.written_laws.proofs.StepsFormed.{IsFormed, fields_formed}
+use Rattle.written_laws.proofs.StepsFormed.{Start, IsFormed, fields_formed}
 
 abbrev scanned : List OutColumn → List ScanColumn
 scanned visible = map scan_column visible
@@ -78,8 +79,12 @@ abbrev pub count_made : Context → SourceCommand → ℕ
 count_made context (Tables node span tables) = length (columns_or_none (columns_of_tables context.catalog.tables tables))
 count_made context (OneRow node span fields) = 0
 
-columns_formed : (columns : List Column) → IsFormed (scan_made (numbered_from 0 columns)) (length columns) (writing_of_columns columns)
-columns_formed columns = record {
+-- what a plan begins with that reads from the source
+abbrev pub start_of : Context → SourceCommand → Start
+start_of context command = record { catalog = context.catalog; columns = count_made context command }
+
+columns_formed : (catalog : Catalog) (columns : List Column) → IsFormed (scan_made (numbered_from 0 columns)) (record { catalog = catalog; columns = length columns }) (writing_of_columns columns)
+columns_formed catalog columns = record {
   columns = record {
     seen = all_made (numbered_from 0 columns);
     below = All-map (IsMadeBelow (length columns)) (λ (column : ScanColumn). made_as column.to column.kind) (scanned (numbered_from 0 columns))
@@ -90,8 +95,8 @@ columns_formed columns = record {
   stand = λ bounds within. All-nil (OutIsMade (scan_made (numbered_from 0 columns)));
 }
 
-nothing_formed : IsFormed [] 0 (writing_of_columns [])
-nothing_formed = record {
+nothing_formed : (catalog : Catalog) → IsFormed [] (record { catalog = catalog; columns = 0 }) (writing_of_columns [])
+nothing_formed catalog = record {
   columns = record { seen = All-nil (OutIsMade []); below = All-nil (IsMadeBelow 0); once = none_made_once };
   later = omega arith;
   stand = λ bounds within. All-nil (OutIsMade []);
@@ -99,9 +104,9 @@ nothing_formed = record {
 
 -- what the source writes is well formed over the columns that it makes
 pub source_formed : (context : Context) (command : SourceCommand) (columns : List Column) → shape_of_source context command ≡ Ok columns
-    → IsFormed (source_made (source_in_plan context.catalog command)) (count_made context command) (write_source context.text context.catalog command)
-source_formed context (Tables node span tables) columns is = columns_formed (columns_or_none (columns_of_tables context.catalog.tables tables))
-source_formed context (OneRow node span fields) columns is = fields_formed [] 0 context fields [] columns (writing_of_columns []) nothing_formed refl is
+    → IsFormed (source_made (source_in_plan context.catalog command)) (start_of context command) (write_source context.text context.catalog command)
+source_formed context (Tables node span tables) columns is = columns_formed context.catalog (columns_or_none (columns_of_tables context.catalog.tables tables))
+source_formed context (OneRow node span fields) columns is = fields_formed [] (start_of context (OneRow node span fields)) context fields [] columns (writing_of_columns []) (nothing_formed context.catalog) refl is
 
 -- the tables are there, and its columns are made once
 pub source_stands : (context : Context) (command : SourceCommand) (columns : List Column) → IsCatalog context.catalog → shape_of_source context command ≡ Ok columns

@@ -13,7 +13,7 @@ use Rattle.esql_plan.specs.declared.plan.OutColumn.{OutColumn}
 use Rattle.esql_plan.specs.declared.plan.PlanSource.TheVariants as source
 use Rattle.esql_plan.specs.declared.plan.ScanColumn.{ScanColumn}
 use Rattle.esql_plan.specs.Values.{NumberedRow}
-use Rattle.plan_semantics.specs.Tables.{TableHeld, catalog_tables, cell_named, empty_row, scan_row, scan_table, source_rows}
+use Rattle.plan_semantics.specs.Tables.{TableHeld, CatalogHeld, catalog_tables, cell_named, empty_row, scan_row, scan_table, source_rows}
 use Rattle.row_semantics.specs.declared.row.NamedCell.{NamedCell}
 use Rattle.row_semantics.specs.Sources.{tables_named, columns_of_tables, columns_or_none}
 use Rattle.query_semantics.specs.Meaning.{row_under, rows_under, rows_of_tables, one_row, rows_of_source, failures_of_source}
@@ -69,23 +69,23 @@ table_named columns (Some table) =
     ∙ map_same (λ cells. named_row (numbered_from 0 columns) (scanned cells)) (row_under columns table) (λ cells. scan_named 0 columns table.shape.columns cells) table.rows)
 
 -- the rows of tables under columns, one table after another
-tables_stand : (tables : List TableHeld) (columns : List Column) (numbers : List ℕ)
-    → Stands (source_rows tables (source.Scan numbers (scan_from 0 columns))) (flat_map (λ number. rows_under columns (slice_get tables number)) numbers) [] (writing_of_columns columns)
-tables_stand tables columns numbers = record {
+tables_stand : (held : CatalogHeld) (columns : List Column) (numbers : List ℕ)
+    → Stands held (source_rows held.tables (source.Scan numbers (scan_from 0 columns))) (flat_map (λ number. rows_under columns (slice_get held.tables number)) numbers) [] (writing_of_columns columns)
+tables_stand held columns numbers = record {
   rows_are =
-      flat_map_same (λ number. rows_under columns (slice_get tables number)) (λ number. map (named_row (numbered_from 0 columns)) (scan_table (scan_from 0 columns) (slice_get tables number)))
-      (λ number. table_named columns (slice_get tables number)) numbers
-      ∙ sym (map-flat_map (named_row (numbered_from 0 columns)) (λ number. scan_table (scan_from 0 columns) (slice_get tables number)) numbers);
+      flat_map_same (λ number. rows_under columns (slice_get held.tables number)) (λ number. map (named_row (numbered_from 0 columns)) (scan_table (scan_from 0 columns) (slice_get held.tables number)))
+      (λ number. table_named columns (slice_get held.tables number)) numbers
+      ∙ sym (map-flat_map (named_row (numbered_from 0 columns)) (λ number. scan_table (scan_from 0 columns) (slice_get held.tables number)) numbers);
   failures_are = refl;
   below = all_below 0 (length columns) columns (omega arith);
 }
 
-pub source_stands : (text : List ℕ) (tables : List TableHeld) (catalog : Catalog) (command : SourceCommand) → catalog.tables ≡ catalog_tables tables
-    → Stands (source_rows tables (source_in_plan catalog command)) (rows_of_source text tables command) (failures_of_source text command) (write_source text catalog command)
-source_stands text tables catalog (Tables node span names) is =
+pub source_stands : (text : List ℕ) (held : CatalogHeld) (catalog : Catalog) (command : SourceCommand) → catalog.tables ≡ catalog_tables held.tables
+    → Stands held (source_rows held.tables (source_in_plan catalog command)) (rows_of_source text held.tables command) (failures_of_source text command) (write_source text catalog command)
+source_stands text held catalog (Tables node span names) is =
     let StandsFor : List TableShape → Type 0 = λ shapes.
-    Stands (source_rows tables (source.Scan (tables_named shapes names) (scan_from 0 (columns_or_none (columns_of_tables shapes names))))) (rows_of_tables tables names) []
+    Stands held (source_rows held.tables (source.Scan (tables_named shapes names) (scan_from 0 (columns_or_none (columns_of_tables shapes names))))) (rows_of_tables held.tables names) []
     (writing_of_columns (columns_or_none (columns_of_tables shapes names))) in
-    subst StandsFor (sym is) (tables_stand tables (columns_or_none (columns_of_tables (catalog_tables tables) names)) (tables_named (catalog_tables tables) names))
-source_stands text tables catalog (OneRow node span fields) is =
-    fields_stand text (empty_row ∷ []) fields one_row [] (writing_of_columns []) (record { rows_are = refl; failures_are = refl; below = All-nil (IsBelow 0) })
+    subst StandsFor (sym is) (tables_stand held (columns_or_none (columns_of_tables (catalog_tables held.tables) names)) (tables_named (catalog_tables held.tables) names))
+source_stands text held catalog (OneRow node span fields) is =
+    fields_stand text held (empty_row ∷ []) fields one_row [] (writing_of_columns []) (record { rows_are = refl; failures_are = refl; below = All-nil (IsBelow 0) })

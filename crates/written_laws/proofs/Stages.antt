@@ -12,7 +12,7 @@ use Rattle.esql_plan.specs.declared.step.Step.{Step}
 use Rattle.esql_plan.specs.declared.step.Step.TheVariants as step
 use Rattle.esql_plan.specs.declared.typed.TypedExpr.{TypedExpr}
 use Rattle.esql_plan.specs.Values.{Valued, NumberedRow, silent, value_of_typed}
-use Rattle.plan_semantics.specs.Tables.{with_cell}
+use Rattle.plan_semantics.specs.Tables.{CatalogHeld, with_cell}
 use Rattle.plan_semantics.specs.Steps.{step_fails, rows_after, failures_after}
 use Rattle.plan_semantics.proofs.Splits.{rows_after-append}
 use Rattle.row_semantics.specs.Rows.{Row}
@@ -26,7 +26,7 @@ use Rattle.query_semantics.proofs.Valued.{expr_valued}
 use Rattle.query_semantics.proofs.Inputs.{column_valued}
 use Rattle.written_laws.proofs.Inputs.{failures_after-push}
 
-module _ (start : List NumberedRow) (visible : List OutColumn) (so_far : List NumberedRow) where
+module _ (held : CatalogHeld) (start : List NumberedRow) (visible : List OutColumn) (so_far : List NumberedRow) where
   abbrev named : NumberedRow → Row
   named = named_row visible
 
@@ -34,8 +34,8 @@ module _ (start : List NumberedRow) (visible : List OutColumn) (so_far : List Nu
   -- keeps what has been made.
   pub record Stage (failures : List Failure) (Has : Row → NumberedRow → Type 0) (writing : Writing) : Type 0 where
     pub become : NumberedRow → NumberedRow
-    pub rows : rows_after writing.steps start ≡ map become so_far
-    pub failures_are : failures_after writing.steps start ≡ failures
+    pub rows : rows_after held writing.steps start ≡ map become so_far
+    pub failures_are : failures_after held writing.steps start ≡ failures
     pub seen : (row : NumberedRow) → named (become row) ≡ named row
     pub has : (row later : NumberedRow) → IsSameBelow writing.next (become row) later → Has (named row) later
     pub visible_is : writing.visible ≡ visible
@@ -65,11 +65,11 @@ module _ (start : List NumberedRow) (visible : List OutColumn) (so_far : List Nu
         λ row. same_put (stage.become row) writing.next (value_of_typed typed (stage.become row)).cell in
         record {
           become = λ row. put (stage.become row);
-          rows = rows_after-append writing.steps (new ∷ []) start
-              ∙ flat_map_one put (rows_after writing.steps start)
+          rows = rows_after-append held writing.steps (new ∷ []) start
+              ∙ flat_map_one put (rows_after held writing.steps start)
               ∙ ap (map put) stage.rows
               ∙ map_map put stage.become so_far;
-          failures_are = failures_after-push writing.steps new start
+          failures_are = failures_after-push held writing.steps new start
               ∙ (λ i. stage.failures_are i ++ flat_map (step_fails new) (stage.rows i))
               ∙ ap (λ (these : List Failure). failures ++ these)
               (flat_map_square (step_fails new) stage.become (λ row. (valued (named row)).failures) (λ row. ap (λ (this : Valued). this.failures) (is row)) so_far

@@ -18,7 +18,7 @@ use Rattle.esql_plan.specs.declared.typed.TypedExpr.{TypedExpr}
 use Rattle.esql_plan.specs.Values.{Valued, NumberedRow, silent, value_of_typed}
 use Rattle.plan_semantics.specs.Groups.{Key}
 use Rattle.plan_semantics.specs.Steps.{step_fails, rows_after, failures_after}
-use Rattle.plan_semantics.specs.Tables.{with_cell}
+use Rattle.plan_semantics.specs.Tables.{CatalogHeld, with_cell}
 use Rattle.plan_semantics.proofs.Splits.{rows_after-append}
 use Rattle.row_semantics.specs.Fields.{name_of_field}
 use Rattle.row_semantics.specs.Meanings.{Given}
@@ -99,13 +99,13 @@ field_split next row rows stats fields number at =
 
 -- Fields ---------------------------------------------------------------------------------------------------------------------
 
-module _ (start : List NumberedRow) (keys : List Key) (low next : ℕ) (first : Key → NumberedRow) (before : List OutColumn) (rows_of : Key → List Row) where
+module _ (held : CatalogHeld) (start : List NumberedRow) (keys : List Key) (low next : ℕ) (first : Key → NumberedRow) (before : List OutColumn) (rows_of : Key → List Row) where
   -- What is written on behind the groups: the rows of the groups, which keep the cells that the groups were made with, and what
   -- is seen of them.
   pub record Behind (names : Key → Row) (failures : List Failure) (writing : Writing) : Type 0 where
     pub become : Key → NumberedRow
-    pub rows : rows_after writing.steps start ≡ map become keys
-    pub failures_are : failures_after writing.steps start ≡ failures
+    pub rows : rows_after held writing.steps start ≡ map become keys
+    pub failures_are : failures_after held writing.steps start ≡ failures
     pub same : (key : Key) → IsSameBelow next (first key) (become key)
     pub named : (key : Key) → named_row writing.visible (become key) ≡ names key
     pub below : AllBelow writing.next writing.visible
@@ -177,11 +177,11 @@ module _ (start : List NumberedRow) (keys : List Key) (low next : ℕ) (first : 
         let later = behind.later in
         record {
           become = λ key. add (behind.become key);
-          rows = rows_after-append writing.steps (new ∷ []) start
-              ∙ flat_map_one add (rows_after writing.steps start)
+          rows = rows_after-append held writing.steps (new ∷ []) start
+              ∙ flat_map_one add (rows_after held writing.steps start)
               ∙ ap (map add) behind.rows
               ∙ map_map add behind.become keys;
-          failures_are = failures_after-push writing.steps new start
+          failures_are = failures_after-push held writing.steps new start
               ∙ (λ i. behind.failures_are i ++ flat_map (step_fails new) (behind.rows i))
               ∙ ap (λ (these : List Failure). failures ++ these)
               (flat_map_square (step_fails new) behind.become (λ key. (value_of_stats stats (rows_of key)).failures) (λ key. ap (λ (this : Valued). this.failures) (field_valued key)) keys);

@@ -22,7 +22,7 @@ use Rattle.written_laws.proofs.GroupingFormed.{AreGroupsNumbered, groups_kept, g
 use Rattle.written_laws.proofs.NodesCounted.{placed, placed-append}
 use Rattle.written_laws.proofs.Shown.{Shows}
 use Rattle.written_laws.proofs.StatsJudged.{stats_judged}
-use Rattle.written_laws.proofs.StepsFormed.{IsFormed, seen_formed}
+use Rattle.written_laws.proofs.StepsFormed.{Start, IsFormed, seen_formed}
 
 groups_seen : (made : List MadeColumn) (text : List ℕ) (number : ℕ) (groups : List Field) (inputs : List GroupInput) (visible : List OutColumn) → All (OutIsMade made) visible
     → AreGroupsNumbered made number inputs → All (OutIsMade made) (put_groups text number groups inputs visible)
@@ -45,10 +45,10 @@ fields_differ (stats ∷ fields) differ =
     (fields_differ fields (λ node. omega (arith, differ node, placed-append node (nodes_of_stats stats) (flat_map nodes_of_stats fields))))
 
 -- STATS
-pub stats_formed : (made : List MadeColumn) (first : ℕ) (context : Context) (fields : List StatsField) (groups : List Field) (columns after : List Column) (writing : Writing)
-    → IsFormed made first writing → Shows writing columns → ((node : NodeId) → placed node (flat_map nodes_of_stats fields ++ flat_map nodes_of_field groups) ≤ 1)
-    → shape_of_stats context.text context.accepts fields groups columns ≡ Ok after → IsFormed made first (write_stats context.text fields groups writing)
-stats_formed made first context fields groups columns after writing formed shows differ is =
+pub stats_formed : (made : List MadeColumn) (start : Start) (context : Context) (fields : List StatsField) (groups : List Field) (columns after : List Column) (writing : Writing)
+    → IsFormed made start writing → Shows writing columns → ((node : NodeId) → placed node (flat_map nodes_of_stats fields ++ flat_map nodes_of_field groups) ≤ 1)
+    → shape_of_stats context.text context.accepts fields groups columns ≡ Ok after → IsFormed made start (write_stats context.text fields groups writing)
+stats_formed made start context fields groups columns after writing formed shows differ is =
     let judged = stats_judged context.accepts columns context.text fields groups after is in
     let calls : List CallInput = all_inputs fields writing in
     let inputs : List GroupInput = group_inputs groups (write_all_before fields writing) in
@@ -57,12 +57,12 @@ stats_formed made first context fields groups columns after writing formed shows
     let grouped : Writing = write_grouping calls inputs with_inputs in
     let behind : Writing = write_stats_fields context.text writing.visible with_inputs.next fields grouped in
     let all_calls : List AggregateCall = flat_map calls_in_field fields in
-    let arguments = fields_before made first context columns fields writing formed shows judged.fields_are in
-    let keys = groups_formed made first context columns groups with_arguments arguments.after.formed arguments.after.shows judged.groups_are in
-    let grouping = grouping_formed made first columns all_calls calls inputs with_inputs keys.after.formed
+    let arguments = fields_before made start context columns fields writing formed shows judged.fields_are in
+    let keys = groups_formed made start context columns groups with_arguments arguments.after.formed arguments.after.shows judged.groups_are in
+    let grouping = grouping_formed made start columns all_calls calls inputs with_inputs keys.after.formed
     (calls_kept columns (steps_made made with_arguments.steps) (steps_made made with_inputs.steps) keys.after.kept all_calls calls arguments.calls_made) keys.inputs in
-    let own = fields_formed made first context columns writing.visible shows with_inputs.next fields grouped grouping.formed judged.fields_are
+    let own = fields_formed made start context columns writing.visible shows with_inputs.next fields grouped grouping.formed judged.fields_are
     (fields_differ fields (λ node. omega (arith, differ node, placed-append node (flat_map nodes_of_stats fields) (flat_map nodes_of_field groups)))) grouping.calls_are in
-    seen_formed made first behind own.formed (put_groups context.text (with_inputs.next + length calls) groups inputs behind.visible)
+    seen_formed made start behind own.formed (put_groups context.text (with_inputs.next + length calls) groups inputs behind.visible)
     (groups_seen (steps_made made behind.steps) context.text (with_inputs.next + length calls) groups inputs behind.visible own.formed.columns.seen
     (groups_kept (steps_made made grouped.steps) (steps_made made behind.steps) own.kept (with_inputs.next + length calls) inputs grouping.groups_are))

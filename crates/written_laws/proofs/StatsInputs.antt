@@ -20,6 +20,7 @@ use Rattle.esql_plan.specs.Values.{Valued, NumberedRow, silent, behind, applied,
 use Rattle.esql_plan.proofs.TypedFolds.{value_of_constant, value_of_column, value_of_call}
 use Rattle.plan_semantics.specs.Stats.{input_cell}
 use Rattle.plan_semantics.specs.Steps.{is_true, failures_of_condition}
+use Rattle.plan_semantics.specs.Tables.{CatalogHeld}
 use Rattle.row_semantics.specs.Rows.{Row}
 use Rattle.query_semantics.specs.RowValues.{value_in_row, failures_of_expr}
 use Rattle.query_semantics.specs.Calls.{AggregateCall, calls_of}
@@ -104,12 +105,12 @@ flagged_valued flag argument row truth is =
     ∙ ap (λ (this : Valued). applied function.Case flag.node (this ∷ value_of_typed argument row ∷ [])) (value_of_column column row flag.id refl ∙ ap silent is)
     ∙ case_flagged flag.node truth (value_of_typed argument row)
 
-module _ (start : List NumberedRow) (visible : List OutColumn) (so_far : List NumberedRow) where
+module _ (held : CatalogHeld) (start : List NumberedRow) (visible : List OutColumn) (so_far : List NumberedRow) where
   abbrev seen_rows : List Row
   seen_rows = map (named_row visible) so_far
 
   abbrev Staged : List Failure → (Row → NumberedRow → Type 0) → Writing → Type 0
-  Staged failures Has writing = Stage start visible so_far failures Has writing
+  Staged failures Has writing = Stage held start visible so_far failures Has writing
 
   -- a row has the flag of a condition in the column that was next
   abbrev HasFlag : Option Condition → ℕ → Row → NumberedRow → Type 0
@@ -119,14 +120,14 @@ module _ (start : List NumberedRow) (visible : List OutColumn) (so_far : List Nu
   flag_stage : (condition : Option Condition) (failures : List Failure) (Has : Row → NumberedRow → Type 0) (writing : Writing) → Staged failures Has writing
       → Staged (failures ++ failures_of_optional condition seen_rows) (λ row later. Has row later × HasFlag condition writing.next row later) (write_flag condition writing)
   flag_stage None failures Has writing stage =
-      stage_as start visible so_far failures (failures ++ []) Has (λ row later. Has row later × Unit {0}) writing (sym (append-nil failures)) (λ row later has. (has, tt)) stage
+      stage_as held start visible so_far failures (failures ++ []) Has (λ row later. Has row later × Unit {0}) writing (sym (append-nil failures)) (λ row later has. (has, tt)) stage
   flag_stage (Some condition) failures Has writing stage =
       let typed : TypedExpr = typed_in writing condition.expr in
       let valued : Row → Valued = λ row. record { cell = flag_cell condition row; failures = failures_of_condition condition.node (value_in_row condition.expr row) } in
-      made_stage start visible so_far failures Has writing stage condition.expr (flag_typed condition.node typed) valued
+      made_stage held start visible so_far failures Has writing stage condition.expr (flag_typed condition.node typed) valued
       (λ row. flag_valued condition.node typed (stage.become row)
       ∙ ap (λ (this : Valued). record { cell = cond (is_true this.cell) (Truth true ∷ []) []; failures = failures_of_condition condition.node this })
-      (typed_valued start visible so_far failures Has writing stage condition.expr row (stage.become row) (λ id less. refl)))
+      (typed_valued held start visible so_far failures Has writing stage condition.expr row (stage.become row) (λ id less. refl)))
 
   -- a row has what a call reads
   abbrev HasRead : Option Condition → Option Expr → Option Flag → Writing → Row → NumberedRow → Type 0
@@ -137,20 +138,20 @@ module _ (start : List NumberedRow) (visible : List OutColumn) (so_far : List Nu
       → Staged (failures ++ failures_of_argument argument (counted_rows condition seen_rows)) (λ row later. Has row later × HasRead condition argument (flag_of condition first) writing row later)
       (write_call (flag_of condition first) argument writing)
   call_stage None first None failures Has writing flagged stage =
-      stage_as start visible so_far failures (failures ++ []) Has (λ row later. Has row later × HasRead None None None writing row later) writing (sym (append-nil failures)) (λ row later has. (has, refl)) stage
+      stage_as held start visible so_far failures (failures ++ []) Has (λ row later. Has row later × HasRead None None None writing row later) writing (sym (append-nil failures)) (λ row later has. (has, refl)) stage
   call_stage (Some condition) first None failures Has writing flagged stage =
-      stage_as start visible so_far failures (failures ++ []) Has (λ row later. Has row later × HasRead (Some condition) None (flag_of (Some condition) first) writing row later) writing
+      stage_as held start visible so_far failures (failures ++ []) Has (λ row later. Has row later × HasRead (Some condition) None (flag_of (Some condition) first) writing row later) writing
       (sym (append-nil failures)) (λ row later has. (has, flagged row later has)) stage
-  call_stage None first (Some argument) failures Has writing flagged stage = input_stage start visible so_far failures Has writing stage argument
+  call_stage None first (Some argument) failures Has writing flagged stage = input_stage held start visible so_far failures Has writing stage argument
   call_stage (Some condition) first (Some argument) failures Has writing flagged stage =
       let flag : Flag = record { node = condition.node; id = column_at first.next } in
       let typed : TypedExpr = typed_in writing argument in
       let test : Row → Bool = λ row. is_true (value_in_row condition.expr row).cell in
-      let after = made_stage start visible so_far failures Has writing stage argument (flagged_typed flag typed) (flagged_value condition argument)
+      let after = made_stage held start visible so_far failures Has writing stage argument (flagged_typed flag typed) (flagged_value condition argument)
       (λ row. flagged_valued flag typed (stage.become row) (test (named_row visible row))
       (flagged (named_row visible row) (stage.become row) (stage.has row (stage.become row) (λ id less. refl)))
-      ∙ ap (λ (this : Valued). cond (test (named_row visible row)) this (silent [])) (typed_valued start visible so_far failures Has writing stage argument row (stage.become row) (λ id less. refl))) in
-      stage_as start visible so_far _ _ (λ row later. Has row later × (later writing.next ≡ (flagged_value condition argument row).cell)) _ _
+      ∙ ap (λ (this : Valued). cond (test (named_row visible row)) this (silent [])) (typed_valued held start visible so_far failures Has writing stage argument row (stage.become row) (λ id less. refl))) in
+      stage_as held start visible so_far _ _ (λ row later. Has row later × (later writing.next ≡ (flagged_value condition argument row).cell)) _ _
       (ap (λ (these : List Failure). failures ++ these) (flat_map_where (λ (this : Valued). this.failures) test (value_in_row argument) refl seen_rows)) (λ row later has. has) after
 
   -- a row has what calls read
@@ -163,7 +164,7 @@ module _ (start : List NumberedRow) (visible : List OutColumn) (so_far : List Nu
       → Staged (failures ++ failures_of_arguments calls (counted_rows condition seen_rows)) (λ row later. Has row later × HasReads condition calls (flag_of condition first) writing row later)
       (write_calls (flag_of condition first) calls writing)
   calls_stage condition first [] failures Has writing flagged stage =
-      stage_as start visible so_far failures (failures ++ []) Has (λ row later. Has row later × HasReads condition [] (flag_of condition first) writing row later) writing
+      stage_as held start visible so_far failures (failures ++ []) Has (λ row later. Has row later × HasReads condition [] (flag_of condition first) writing row later) writing
       (sym (append-nil failures)) (λ row later has. (has, refl)) stage
   calls_stage condition first (call ∷ calls) failures Has writing flagged stage =
       let flag : Option Flag = flag_of condition first in
@@ -171,7 +172,7 @@ module _ (start : List NumberedRow) (visible : List OutColumn) (so_far : List Nu
       let One : Row → NumberedRow → Type 0 = λ row later. Has row later × HasRead condition call.argument flag writing row later in
       let one = call_stage condition first call.argument failures Has writing flagged stage in
       let rest = calls_stage condition first calls (failures ++ failures_of_argument call.argument rows) One (write_call flag call.argument writing) (λ row later has. flagged row later has.0) one in
-      stage_as start visible so_far _ _ (λ row later. One row later × HasReads condition calls flag (write_call flag call.argument writing) row later) _ _
+      stage_as held start visible so_far _ _ (λ row later. One row later × HasReads condition calls flag (write_call flag call.argument writing) row later) _ _
       (append_assoc failures (failures_of_argument call.argument rows) (failures_of_arguments calls rows))
       (λ row later has. (has.0.0, λ i. has.0.1 i ∷ has.1 i)) rest
 
@@ -185,7 +186,7 @@ module _ (start : List NumberedRow) (visible : List OutColumn) (so_far : List Nu
       let flag = flag_stage stats.condition failures Has writing stage in
       let Flagged : Row → NumberedRow → Type 0 = λ row later. Has row later × HasFlag stats.condition writing.next row later in
       let calls = calls_stage stats.condition writing (calls_of stats.field.expr) _ Flagged (write_flag stats.condition writing) (λ row later has. has.1) flag in
-      stage_as start visible so_far _ _ (λ row later. Flagged row later × HasBefore stats writing row later) _ _
+      stage_as held start visible so_far _ _ (λ row later. Flagged row later × HasBefore stats writing row later) _ _
       (append_assoc failures (failures_of_optional stats.condition seen_rows) (failures_of_arguments (calls_of stats.field.expr) (counted_rows stats.condition seen_rows)))
       (λ row later has. (has.0.0, has.1)) calls
 
@@ -196,12 +197,12 @@ module _ (start : List NumberedRow) (visible : List OutColumn) (so_far : List Nu
   pub fields_stage : (fields : List StatsField) (failures : List Failure) (Has : Row → NumberedRow → Type 0) (writing : Writing) → Staged failures Has writing
       → Staged (failures ++ flat_map (λ stats. failures_before stats seen_rows) fields) (λ row later. Has row later × HasAllBefore fields writing row later) (write_all_before fields writing)
   fields_stage [] failures Has writing stage =
-      stage_as start visible so_far failures (failures ++ []) Has (λ row later. Has row later × HasAllBefore [] writing row later) writing (sym (append-nil failures)) (λ row later has. (has, refl)) stage
+      stage_as held start visible so_far failures (failures ++ []) Has (λ row later. Has row later × HasAllBefore [] writing row later) writing (sym (append-nil failures)) (λ row later has. (has, refl)) stage
   fields_stage (stats ∷ fields) failures Has writing stage =
       let one = before_stage stats failures Has writing stage in
       let One : Row → NumberedRow → Type 0 = λ row later. Has row later × HasBefore stats writing row later in
       let rest = fields_stage fields (failures ++ failures_before stats seen_rows) One (write_before stats writing) one in
-      stage_as start visible so_far _ _ (λ row later. One row later × HasAllBefore fields (write_before stats writing) row later) _ _
+      stage_as held start visible so_far _ _ (λ row later. One row later × HasAllBefore fields (write_before stats writing) row later) _ _
       (append_assoc failures (failures_before stats seen_rows) (flat_map (λ stats. failures_before stats seen_rows) fields))
       (λ row later has. (
         has.0.0,
@@ -217,11 +218,11 @@ module _ (start : List NumberedRow) (visible : List OutColumn) (so_far : List Nu
   pub groups_stage : (groups : List Field) (failures : List Failure) (Has : Row → NumberedRow → Type 0) (writing : Writing) → Staged failures Has writing
       → Staged (failures ++ flat_map (λ (group : Field). failures_of_expr group.expr seen_rows) groups) (λ row later. Has row later × HasGroups groups writing row later) (write_groups groups writing)
   groups_stage [] failures Has writing stage =
-      stage_as start visible so_far failures (failures ++ []) Has (λ row later. Has row later × HasGroups [] writing row later) writing (sym (append-nil failures)) (λ row later has. (has, refl)) stage
+      stage_as held start visible so_far failures (failures ++ []) Has (λ row later. Has row later × HasGroups [] writing row later) writing (sym (append-nil failures)) (λ row later has. (has, refl)) stage
   groups_stage (group ∷ groups) failures Has writing stage =
-      let one = input_stage start visible so_far failures Has writing stage group.expr in
+      let one = input_stage held start visible so_far failures Has writing stage group.expr in
       let One : Row → NumberedRow → Type 0 = λ row later. Has row later × (later (input_of writing group.expr).0 ≡ (value_in_row group.expr row).cell) in
       let rest = groups_stage groups (failures ++ failures_of_expr group.expr seen_rows) One (write_input writing group.expr) one in
-      stage_as start visible so_far _ _ (λ row later. One row later × HasGroups groups (write_input writing group.expr) row later) _ _
+      stage_as held start visible so_far _ _ (λ row later. One row later × HasGroups groups (write_input writing group.expr) row later) _ _
       (append_assoc failures (failures_of_expr group.expr seen_rows) (flat_map (λ (group : Field). failures_of_expr group.expr seen_rows) groups))
       (λ row later has. (has.0.0, λ i. has.0.1 i ∷ has.1 i)) rest

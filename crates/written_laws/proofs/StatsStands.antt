@@ -17,6 +17,7 @@ use Rattle.plan_semantics.specs.Groups.{Key, Entry, aggregates_at, cells_of_grou
 use Rattle.plan_semantics.specs.Stats.{entry_of, entries_of, stats_row, row_of_columns}
 use Rattle.plan_semantics.specs.Steps.{rows_after, failures_after}
 use Rattle.plan_semantics.proofs.Splits.{rows_after-append}
+use Rattle.plan_semantics.specs.Tables.{CatalogHeld}
 use Rattle.row_semantics.specs.Rows.{Row}
 use Rattle.query_semantics.specs.Named.{named_row}
 use Rattle.query_semantics.specs.RowValues.{value_in_row, failures_of_expr}
@@ -41,10 +42,10 @@ groups_long : (groups : List Field) (writing : Writing) → length (group_inputs
 groups_long [] writing = refl
 groups_long (group ∷ groups) writing = ap (λ (n : ℕ). suc n) (groups_long groups (write_input writing group.expr))
 
-module _ (start : List NumberedRow) (rows : List Row) (failures : List Failure) (writing : Writing) (stands : Stands start rows failures writing)
+module _ (held : CatalogHeld) (start : List NumberedRow) (rows : List Row) (failures : List Failure) (writing : Writing) (stands : Stands held start rows failures writing)
     (fields : List StatsField) (groups : List Field) (whole : AllByRecursion IsWhole (calls_in_fields fields)) where
   abbrev so_far : List NumberedRow
-  so_far = rows_after writing.steps start
+  so_far = rows_after held writing.steps start
 
   abbrev named : NumberedRow → Row
   named = named_row writing.visible
@@ -88,7 +89,7 @@ module _ (start : List NumberedRow) (rows : List Row) (failures : List Failure) 
   failures_of_inputs these =
       (failures ++ flat_map (λ stats. failures_before stats these) fields) ++ flat_map (λ (group : Field). failures_of_expr group.expr these) groups
 
-  begun : Stage start writing.visible so_far failures (λ row later. Unit {0}) writing
+  begun : Stage held start writing.visible so_far failures (λ row later. Unit {0}) writing
   begun = record {
     become = λ row. row;
     rows = sym (map-id so_far);
@@ -100,20 +101,20 @@ module _ (start : List NumberedRow) (rows : List Row) (failures : List Failure) 
   }
 
   abbrev HasArguments : Row → NumberedRow → Type 0
-  HasArguments row later = Unit {0} × HasAllBefore start writing.visible so_far fields writing row later
+  HasArguments row later = Unit {0} × HasAllBefore held start writing.visible so_far fields writing row later
 
   abbrev HasInputs : Row → NumberedRow → Type 0
   HasInputs row later =
       HasArguments row later × (map (λ (input : GroupInput). later input.id.0) inputs ≡ map (λ (group : Field). (value_in_row group.expr row).cell) groups)
 
-  staged : Stage start writing.visible so_far (failures_of_inputs (map named so_far)) HasInputs with_inputs
+  staged : Stage held start writing.visible so_far (failures_of_inputs (map named so_far)) HasInputs with_inputs
   staged =
-      groups_stage start writing.visible so_far groups (failures ++ flat_map (λ stats. failures_before stats (map named so_far)) fields) HasArguments with_arguments
-      (fields_stage start writing.visible so_far fields failures (λ row later. Unit {0}) writing begun)
+      groups_stage held start writing.visible so_far groups (failures ++ flat_map (λ stats. failures_before stats (map named so_far)) fields) HasArguments with_arguments
+      (fields_stage held start writing.visible so_far fields failures (λ row later. Unit {0}) writing begun)
 
-  entries_are : entries_of aggregates columns (rows_after with_inputs.steps start) ≡ map (entry_named fields groups) rows
+  entries_are : entries_of aggregates columns (rows_after held with_inputs.steps start) ≡ map (entry_named fields groups) rows
   entries_are =
-      let stage : Stage start writing.visible so_far (failures_of_inputs (map named so_far)) HasInputs with_inputs = staged in
+      let stage : Stage held start writing.visible so_far (failures_of_inputs (map named so_far)) HasInputs with_inputs = staged in
       let entry_at : (row : NumberedRow) → entry_of aggregates columns (stage.become row) ≡ entry_named fields groups (named row) = λ row.
       let has = stage.has row (stage.become row) (λ id less. refl) in
       entry_is fields groups writing with_arguments low second (named row) (stage.become row) has.0.1 has.1 in
@@ -138,10 +139,10 @@ module _ (start : List NumberedRow) (rows : List Row) (failures : List Failure) 
       ∙ ap (λ (these : List (List Value)). these ++ key) (map_map (λ (one : Given). one.cell) (gives (rows_of key)) (calls_in_fields fields)) in
       λ i. row_of_columns (columns_are low second calls inputs i) (cells i)
 
-  grouped : rows_after grouping.steps start ≡ map first keys
+  grouped : rows_after held grouping.steps start ≡ map first keys
   grouped =
       let entries : List Entry = map (entry_named fields groups) rows in
-      rows_after-append with_inputs.steps (step.Stats aggregates columns ∷ []) start
+      rows_after-append held with_inputs.steps (step.Stats aggregates columns ∷ []) start
       ∙ ap (λ (these : List Entry). map (stats_row aggregates columns) (rows_of_groups (length columns) aggregates these)) entries_are
       ∙ map_map (stats_row aggregates columns) (cells_of_group aggregates entries) _
       ∙ ap (map (λ key. stats_row aggregates columns (cells_of_group aggregates entries key))) (keys_named fields groups with_arguments second rows)
@@ -150,11 +151,11 @@ module _ (start : List NumberedRow) (rows : List Row) (failures : List Failure) 
   abbrev failures_of_calls : List Failure
   failures_of_calls = flat_map (λ key. flat_map (λ stats. failures_in_group stats (rows_of key)) fields) keys
 
-  grouping_fails : failures_after grouping.steps start ≡ failures_of_inputs rows ++ failures_of_calls
+  grouping_fails : failures_after held grouping.steps start ≡ failures_of_inputs rows ++ failures_of_calls
   grouping_fails =
-      let stage : Stage start writing.visible so_far (failures_of_inputs (map named so_far)) HasInputs with_inputs = staged in
+      let stage : Stage held start writing.visible so_far (failures_of_inputs (map named so_far)) HasInputs with_inputs = staged in
       let entries : List Entry = map (entry_named fields groups) rows in
-      failures_after-push with_inputs.steps (step.Stats aggregates columns) start
+      failures_after-push held with_inputs.steps (step.Stats aggregates columns) start
       ∙ (λ i. (stage.failures_are ∙ ap failures_of_inputs (sym stands.rows_are)) i ++ failures_of_groups (length columns) aggregates (entries_are i))
       ∙ ap (λ (these : List Failure). failures_of_inputs rows ++ these)
       (ap (flat_map (λ key. failures_given aggregates (aggregates_at aggregates entries key))) (keys_named fields groups with_arguments second rows)
@@ -181,9 +182,9 @@ module _ (start : List NumberedRow) (rows : List Row) (failures : List Failure) 
       (subst (λ (n : ℕ). CellsAt grouping.next (row_of_columns (ids_from low n ++ ids_from (low + n) (length key)) cells) (low + n) key) long
       (back_at grouping.next (cells_of_calls key) key low (omega (arith, long, own))))
 
-  begins : Begins start keys low grouping.next first writing.visible rows_of
+  begins : Begins held start keys low grouping.next first writing.visible rows_of
   begins =
-      let stage : Stage start writing.visible so_far (failures_of_inputs (map named so_far)) HasInputs with_inputs = staged in
+      let stage : Stage held start writing.visible so_far (failures_of_inputs (map named so_far)) HasInputs with_inputs = staged in
       record {
         null = λ key. columns_null low low second (length calls) (length inputs) (cells_of_calls key ++ key) (omega arith) (omega arith);
         before_below = stage.below;
@@ -191,7 +192,7 @@ module _ (start : List NumberedRow) (rows : List Row) (failures : List Failure) 
       }
 
   abbrev AreBehind : (Key → Row) → List Failure → Writing → Type 0
-  AreBehind names fails after = Behind start keys low grouping.next first writing.visible rows_of names fails after
+  AreBehind names fails after = Behind held start keys low grouping.next first writing.visible rows_of names fails after
 
   grouping_behind : AreBehind (λ key. []) (failures_of_inputs rows ++ failures_of_calls) grouping
   grouping_behind = record {
@@ -213,7 +214,7 @@ module _ (start : List NumberedRow) (rows : List Row) (failures : List Failure) 
 
     after_behind : AreBehind (λ key. put_fields text fields (rows_of key) []) ((failures_of_inputs rows ++ failures_of_calls) ++ failures_of_values) after
     after_behind =
-        fields_behind start keys low grouping.next first writing.visible rows_of begins text fields low (λ key. []) (failures_of_inputs rows ++ failures_of_calls) grouping grouping_behind calls_at
+        fields_behind held start keys low grouping.next first writing.visible rows_of begins text fields low (λ key. []) (failures_of_inputs rows ++ failures_of_calls) grouping grouping_behind calls_at
 
     abbrev shown : List OutColumn
     shown = put_groups text second groups inputs after.visible
@@ -225,7 +226,7 @@ module _ (start : List NumberedRow) (rows : List Row) (failures : List Failure) 
         ∙ key_named text grouping.next groups with_arguments second after.visible key (behind.become key) is
         (at_kept grouping.next (first key) (behind.become key) second key (behind.same key) (key_at key is))
 
-    pub stats_stands : Stands start (rows_of_stats text fields groups rows) (failures ++ failures_of_stats fields groups rows) (write_stats text fields groups writing)
+    pub stats_stands : Stands held start (rows_of_stats text fields groups rows) (failures ++ failures_of_stats fields groups rows) (write_stats text fields groups writing)
     stats_stands =
         let behind : AreBehind (λ key. put_fields text fields (rows_of key) []) ((failures_of_inputs rows ++ failures_of_calls) ++ failures_of_values) after = after_behind in
         let later = behind.later in

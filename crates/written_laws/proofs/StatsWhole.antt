@@ -3,18 +3,12 @@ use Rattle.std.proofs.Common.{◌≡◌, ℕ, Bool, List, [], ◌∷◌, Option,
 use Rattle.std.specs.List.{AllByRecursion}
 use Rattle.esql_types.specs.declared.names.Column.{Column}
 use Rattle.esql_types.specs.declared.value.Kind.{Kind}
-use Rattle.esql_ast.specs.declared.query.Command.{Command}
-use Rattle.esql_ast.specs.declared.query.CommandKind.{CommandKind}
-use Rattle.esql_ast.specs.declared.query.CommandKind.TheVariants.{Stats}
 use Rattle.esql_ast.specs.declared.query.Field.{Field}
-use Rattle.esql_ast.specs.declared.query.Query.{Query}
 use Rattle.esql_ast.specs.declared.query.StatsField.{StatsField}
-use Rattle.esql_plan.specs.declared.catalog.Catalog.{Catalog}
 use Rattle.row_semantics.specs.Kinds.{and_then, kind_or_rule}
-use Rattle.row_semantics.specs.Regulars.{Regular, is_accepted}
+use Rattle.row_semantics.specs.Regulars.{Regular}
 use Rattle.row_semantics.specs.Scopes.{Broken}
 use Rattle.query_semantics.specs.Calls.{calls_of}
-use Rattle.query_semantics.specs.Shapes.{Context, shape_of_source, shape_of_kind, unless_empty, shape_of_command, shape_of_commands, shape_of}
 use Rattle.query_semantics.specs.StatsShapes.{field_scope, FieldKinds, kind_of_condition, kinds_of_field, kinds_of_fields, kinds_of_groups, fields_rule, put_field_columns, put_group_columns, unless_broken, shape_of_stats}
 use Rattle.query_semantics.proofs.CallsWhole.{calls_whole}
 use Rattle.query_semantics.proofs.Distinct.{each_append}
@@ -66,30 +60,9 @@ fields_whole accepts columns (stats ∷ fields) kinds is =
     let rest = found_of (kinds_of_fields accepts columns fields) (λ rest. Ok (first.value ∷ rest)) kinds first.next_is in
     each_append IsWhole (calls_in_field stats) (calls_in_fields fields) (field_whole accepts columns stats first.value first.is) (fields_whole accepts columns fields rest.value rest.is)
 
--- the aggregate calls of a command have their arguments
-abbrev pub KindIsWhole : CommandKind → Type 0
-KindIsWhole (Stats fields groups) = AllByRecursion IsWhole (calls_in_fields fields)
-KindIsWhole other = Unit {0}
-
-abbrev pub CommandsAreWhole : List Command → Type 0
-CommandsAreWhole commands = AllByRecursion (λ (command : Command). KindIsWhole command.kind) commands
-
-kind_whole : (context : Context) (kind : CommandKind) (columns after : List Column) → shape_of_kind context kind columns ≡ Ok after → KindIsWhole kind
-kind_whole context (Stats fields groups) columns after is =
-    let found = stats_shape context.text context.accepts fields groups columns after is in
-    fields_whole context.accepts columns fields found.fields found.fields_are
-kind_whole context other columns after is = tt
-
-commands_whole : (context : Context) (commands : List Command) (columns after : List Column) → shape_of_commands context commands columns ≡ Ok after → CommandsAreWhole commands
-commands_whole context [] columns after is = tt
-commands_whole context (command ∷ commands) columns after is =
-    let found = found_of (shape_of_command context command columns) (shape_of_commands context commands) after is in
-    let own = found_of (shape_of_kind context command.kind columns) (unless_empty command.span) found.value found.is in
-    (kind_whole context command.kind columns own.value own.is, commands_whole context commands found.value after found.next_is)
-
--- a query that breaks no rule
-pub query_whole : (text : List ℕ) (catalog : Catalog) (query : Query) (columns : List Column) → shape_of text catalog query ≡ Ok columns → CommandsAreWhole query.commands
-query_whole text catalog query columns is =
-    let context : Context = record { text = text; catalog = catalog; accepts = is_accepted } in
-    let found = found_of (shape_of_source context query.source) (shape_of_commands context query.commands) columns is in
-    commands_whole context query.commands found.value columns found.next_is
+-- a STATS that breaks no rule
+pub stats_whole : (text : List ℕ) (accepts : Regular → Bool) (fields : List StatsField) (groups : List Field) (columns after : List Column) → shape_of_stats text accepts fields groups columns ≡ Ok after
+    → AllByRecursion IsWhole (calls_in_fields fields)
+stats_whole text accepts fields groups columns after is =
+    let found = stats_shape text accepts fields groups columns after is in
+    fields_whole accepts columns fields found.fields found.fields_are

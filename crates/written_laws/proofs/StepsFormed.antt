@@ -13,6 +13,7 @@ use Rattle.esql_types.specs.declared.names.ColId.{ColId}
 use Rattle.esql_ast.specs.declared.expr.Expr.{Expr}
 use Rattle.esql_ast.specs.declared.query.Field.{Field}
 use Rattle.esql_ast.specs.declared.query.SortKey.{SortKey}
+use Rattle.esql_plan.specs.declared.catalog.Catalog.{Catalog}
 use Rattle.esql_plan.specs.declared.plan.OutColumn.{OutColumn}
 use Rattle.esql_plan.specs.declared.step.PlanKey.{PlanKey}
 use Rattle.esql_plan.specs.declared.step.Step.{Step}
@@ -45,18 +46,25 @@ use Rattle.written_laws.proofs.MadeOnce.{AreMade, made_first, made_later, is_mad
 abbrev pub IsNodeBelow : ℕ → NodeId → Type 0
 IsNodeBelow nodes node = node.0 < nodes
 
+-- what a plan begins with: its catalog, and as many columns as its source makes
+pub record Start : Type 0 where
+  pub catalog : Catalog
+  pub columns : ℕ
+
 -- what has been written is within bounds
-pub record IsWithin (bounds : Bounds) (writing : Writing) : Type 0 where
+pub record IsWithin (start : Start) (bounds : Bounds) (writing : Writing) : Type 0 where
+  pub catalog : bounds.catalog ≡ start.catalog
   pub whole : HasAt bounds.whole 0 writing.whole
   pub free : HasAt bounds.free 0 writing.free
+  pub cutters : HasAt bounds.cutters 0 writing.cutters
   pub next : writing.next ≤ bounds.columns
   pub nodes : All (IsNodeBelow bounds.nodes) (flat_map step_nodes writing.steps)
 
--- what has been written is well formed over the columns that the source makes, which are as many as the first number
-pub record IsFormed (made : List MadeColumn) (first : ℕ) (writing : Writing) : Type 0 where
+-- what has been written is well formed over the columns that the source makes
+pub record IsFormed (made : List MadeColumn) (start : Start) (writing : Writing) : Type 0 where
   pub columns : AreMade (steps_made made writing.steps) writing.next writing.visible
-  pub later : first ≤ writing.next
-  pub stand : (bounds : Bounds) → IsWithin bounds writing → StepsStand bounds [] made writing.steps
+  pub later : start.columns ≤ writing.next
+  pub stand : (bounds : Bounds) → IsWithin start bounds writing → StepsStand bounds [] made writing.steps
 
 -- a step at the end -----------------------------------------------------------------------------------------------------------
 
@@ -75,13 +83,13 @@ pub steps_show : (bounds : Bounds) (output : List OutColumn) (made : List MadeCo
 steps_show bounds output made [] stand all = all
 steps_show bounds output made (step ∷ steps) stand all = (stand.0, steps_show bounds output (step_made made step) steps stand.1 all)
 
-pub number_behind : (patterns these those : List (List ℕ)) → HasAt patterns 0 (these ++ those) → HasAt patterns (length these) those
-number_behind patterns these those at = subst (λ (n : ℕ). HasAt patterns n those) (same (length these)) (at-append patterns 0 these those at).1
+pub number_behind : {Item : Type 0} (all these those : List Item) → HasAt all 0 (these ++ those) → HasAt all (length these) those
+number_behind all these those at = subst (λ (n : ℕ). HasAt all n those) (same (length these)) (at-append all 0 these those at).1
   where
     same : (n : ℕ) → 0 + n ≡ n
     same n = omega arith
 
-module _ (made : List MadeColumn) (first : ℕ) (writing : Writing) (formed : IsFormed made first writing) where
+module _ (made : List MadeColumn) (start : Start) (writing : Writing) (formed : IsFormed made start writing) where
   abbrev so_far : List MadeColumn
   so_far = steps_made made writing.steps
 
@@ -109,7 +117,7 @@ module _ (made : List MadeColumn) (first : ℕ) (writing : Writing) (formed : Is
   pub typed_formed : (expr : Expr) (typed : TypedExpr)
       → ((bounds : Bounds) → HasAt bounds.whole 0 (writing.whole ++ (typing_of expr).whole) → HasAt bounds.free 0 (writing.free ++ (typing_of expr).free)
       → All (IsNodeBelow bounds.nodes) (nodes_of typed) → ExprStands bounds so_far typed)
-      → IsFormed made first (write_typed writing expr typed)
+      → IsFormed made start (write_typed writing expr typed)
   typed_formed expr typed stands =
       let last : Step = step.Eval (column_at writing.next) typed in
       record {
@@ -118,9 +126,11 @@ module _ (made : List MadeColumn) (first : ℕ) (writing : Writing) (formed : Is
         later = omega (arith, formed.later);
         stand = λ bounds within.
             let nodes = split_nodes bounds.nodes last within.nodes in
-            let before : IsWithin bounds writing = record {
+            let before : IsWithin start bounds writing = record {
+              catalog = within.catalog;
               whole = (at-append bounds.whole 0 writing.whole (typing_of expr).whole within.whole).0;
               free = (at-append bounds.free 0 writing.free (typing_of expr).free within.free).0;
+              cutters = within.cutters;
               next = omega (arith, within.next);
               nodes = nodes.0;
             } in
@@ -141,7 +151,7 @@ module _ (made : List MadeColumn) (first : ℕ) (writing : Writing) (formed : Is
 
   -- an expression makes a column
   pub eval_formed : (context : Context) (columns : List Column) (expr : Expr) (kind : Kind) → Shows writing columns → kind_or_rule expr (scope_over context columns) ≡ Ok kind
-      → IsFormed made first (write_input_by None expr writing)
+      → IsFormed made start (write_input_by None expr writing)
   eval_formed context columns expr kind shows is = typed_formed expr (typed_in writing expr) (expr_stands context columns expr kind shows is)
 
   either_true : (truth : Bool) (broken : Broken) (columns after : List Column) → ◌≡◌ {A = Shape} (cond truth (Ok columns) (Err broken)) (Ok after) → truth ≡ true
@@ -150,7 +160,7 @@ module _ (made : List MadeColumn) (first : ℕ) (writing : Writing) (formed : Is
 
   -- WHERE
   pub condition_formed : (context : Context) (columns after : List Column) (node : NodeId) (condition : Expr) → Shows writing columns
-      → shape_of_condition context condition columns ≡ Ok after → IsFormed made first (write_condition node condition writing)
+      → shape_of_condition context condition columns ≡ Ok after → IsFormed made start (write_condition node condition writing)
   condition_formed context columns after node condition shows is =
       let typed : TypedExpr = typed_in writing condition in
       let last : Step = step.Filter node typed in
@@ -163,9 +173,11 @@ module _ (made : List MadeColumn) (first : ℕ) (writing : Writing) (formed : Is
         later = formed.later;
         stand = λ bounds within.
             let nodes = split_nodes bounds.nodes last within.nodes in
-            let before : IsWithin bounds writing = record {
+            let before : IsWithin start bounds writing = record {
+              catalog = within.catalog;
               whole = (at-append bounds.whole 0 writing.whole (typing_of condition).whole within.whole).0;
               free = (at-append bounds.free 0 writing.free (typing_of condition).free within.free).0;
+              cutters = within.cutters;
               next = within.next;
               nodes = nodes.0;
             } in
@@ -178,29 +190,29 @@ module _ (made : List MadeColumn) (first : ℕ) (writing : Writing) (formed : Is
       }
 
   -- other columns that can be seen
-  pub seen_formed : (visible : List OutColumn) → All (OutIsMade so_far) visible → IsFormed made first (record writing { visible = visible })
+  pub seen_formed : (visible : List OutColumn) → All (OutIsMade so_far) visible → IsFormed made start (record writing { visible = visible })
   seen_formed visible all = record {
     columns = record { seen = all; below = formed.columns.below; once = formed.columns.once };
     later = formed.later;
-    stand = λ bounds within. formed.stand bounds (record { whole = within.whole; free = within.free; next = within.next; nodes = within.nodes });
+    stand = λ bounds within. formed.stand bounds (record { catalog = within.catalog; whole = within.whole; free = within.free; cutters = within.cutters; next = within.next; nodes = within.nodes });
   }
 
   -- a step that makes no column, as LIMIT and SORT
-  pub step_formed : (last : Step) → step_made so_far last ≡ so_far → ((bounds : Bounds) → StepStands bounds so_far last) → IsFormed made first (record writing { steps = writing.steps ++ last ∷ [] })
+  pub step_formed : (last : Step) → step_made so_far last ≡ so_far → ((bounds : Bounds) → StepStands bounds so_far last) → IsFormed made start (record writing { steps = writing.steps ++ last ∷ [] })
   step_formed last same stands = record {
     columns = subst (λ (these : List MadeColumn). AreMade these writing.next writing.visible) (sym (steps_made-push made writing.steps last ∙ same)) formed.columns;
     later = formed.later;
     stand = λ bounds within.
-        let before : IsWithin bounds writing = record { whole = within.whole; free = within.free; next = within.next; nodes = (split_nodes bounds.nodes last within.nodes).0 } in
+        let before : IsWithin start bounds writing = record { catalog = within.catalog; whole = within.whole; free = within.free; cutters = within.cutters; next = within.next; nodes = (split_nodes bounds.nodes last within.nodes).0 } in
         steps_stand-push bounds made writing.steps last (formed.stand bounds before) (stands bounds);
   }
 
-  pub limit_formed : (count : ℕ) → IsFormed made first (write_limit count writing)
+  pub limit_formed : (count : ℕ) → IsFormed made start (write_limit count writing)
   limit_formed count = step_formed (step.Limit count) refl (λ bounds. tt)
 
   -- MV_EXPAND
   pub expand_formed : (name : List ℕ) (found : Option OutColumn) → visible_named writing.visible name ≡ found → AreDistinct (visible_names writing.visible)
-      → IsFormed made first (write_expand_of found name writing)
+      → IsFormed made start (write_expand_of found name writing)
   expand_formed name None is distinct = formed
   expand_formed name (Some column) is distinct =
       let last : Step = step.Expand column.id (column_at writing.next) in
@@ -217,9 +229,11 @@ module _ (made : List MadeColumn) (first : ℕ) (writing : Writing) (formed : Is
         columns = subst (λ (these : List MadeColumn). AreMade these (writing.next + 1) visible) (sym (steps_made-push made writing.steps last)) (record { seen = seen; below = next.below; once = next.once });
         later = omega (arith, formed.later);
         stand = λ bounds within.
-            let before : IsWithin bounds writing = record {
+            let before : IsWithin start bounds writing = record {
+              catalog = within.catalog;
               whole = within.whole;
               free = within.free;
+              cutters = within.cutters;
               next = omega (arith, within.next);
               nodes = (split_nodes bounds.nodes last within.nodes).0;
             } in
@@ -228,18 +242,18 @@ module _ (made : List MadeColumn) (first : ℕ) (writing : Writing) (formed : Is
       }
 
 -- a field
-field_formed : (made : List MadeColumn) (first : ℕ) (context : Context) (columns : List Column) (field : Field) (kind : Kind) (writing : Writing) → IsFormed made first writing → Shows writing columns
-    → kind_or_rule field.expr (scope_over context columns) ≡ Ok kind → IsFormed made first (write_field context.text writing field)
-field_formed made first context columns field kind writing formed shows is =
+field_formed : (made : List MadeColumn) (start : Start) (context : Context) (columns : List Column) (field : Field) (kind : Kind) (writing : Writing) → IsFormed made start writing → Shows writing columns
+    → kind_or_rule field.expr (scope_over context columns) ≡ Ok kind → IsFormed made start (write_field context.text writing field)
+field_formed made start context columns field kind writing formed shows is =
     let after : Writing = write_input_by None field.expr writing in
     let name : List ℕ = name_of_field context.text field in
     let typed : TypedExpr = typed_in writing field.expr in
-    let makes : IsFormed made first after = eval_formed made first writing formed context columns field.expr kind shows is in
+    let makes : IsFormed made start after = eval_formed made start writing formed context columns field.expr kind shows is in
     let own : OutColumn = record { name = name; kind = typed.kind; id = column_at writing.next } in
     let there : OutIsMade (steps_made made after.steps) own =
     subst (λ (these : List MadeColumn). OutIsMade these own) (sym (steps_made-push made writing.steps (step.Eval (column_at writing.next) typed)))
     (made_first (made_as (column_at writing.next) typed.kind) (steps_made made writing.steps)) in
-    seen_formed made first after makes (put_visible writing.visible name typed.kind writing.next)
+    seen_formed made start after makes (put_visible writing.visible name typed.kind writing.next)
     (All-push (OutIsMade (steps_made made after.steps)) (filter (λ (column : OutColumn). not (bytes_eq column.name name)) writing.visible) own
     (All-filter (λ (column : OutColumn). not (bytes_eq column.name name)) (OutIsMade (steps_made made after.steps)) writing.visible makes.columns.seen) there)
 
@@ -251,19 +265,19 @@ pub record HasSomeKind (context : Context) (columns : List Column) (expr : Expr)
   pub is : kind_or_rule expr (scope_over context columns) ≡ Ok kind
 
 -- The column of an input is made, with the kind of the expression, and no column is lost.
-pub record InputIsFormed (made : List MadeColumn) (first : ℕ) (before after : Writing) (id : ColId) (kind : Kind) : Type 0 where
-  pub formed : IsFormed made first after
+pub record InputIsFormed (made : List MadeColumn) (start : Start) (before after : Writing) (id : ColId) (kind : Kind) : Type 0 where
+  pub formed : IsFormed made start after
   pub input : IsMadeAs (steps_made made after.steps) id kind
   pub kept : (column : MadeColumn) → Contains (steps_made made before.steps) column → Contains (steps_made made after.steps) column
 
-pub input_formed : (made : List MadeColumn) (first : ℕ) (context : Context) (columns : List Column) (expr : Expr) (writing : Writing) → IsFormed made first writing → Shows writing columns
-    → HasSomeKind context columns expr → InputIsFormed made first writing (write_input writing expr) (input_of writing expr) (typed_in writing expr).kind
-input_formed made first context columns expr writing formed shows some = by_found (column_of_typed typed) refl
+pub input_formed : (made : List MadeColumn) (start : Start) (context : Context) (columns : List Column) (expr : Expr) (writing : Writing) → IsFormed made start writing → Shows writing columns
+    → HasSomeKind context columns expr → InputIsFormed made start writing (write_input writing expr) (input_of writing expr) (typed_in writing expr).kind
+input_formed made start context columns expr writing formed shows some = by_found (column_of_typed typed) refl
   where
     typed : TypedExpr
     typed = typed_in writing expr
 
-    by_found : (found : Option ColId) → column_of_typed typed ≡ found → InputIsFormed made first writing (write_input_by found expr writing) (input_by found writing.next) typed.kind
+    by_found : (found : Option ColId) → column_of_typed typed ≡ found → InputIsFormed made start writing (write_input_by found expr writing) (input_by found writing.next) typed.kind
     by_found (Some id) is =
         let reads : All (ReadIsMade (steps_made made writing.steps)) (columns_read typed) = typed_reads expr (steps_made made writing.steps) writing.visible formed.columns.seen _ _ in
         record {
@@ -272,9 +286,9 @@ input_formed made first context columns expr writing formed shows some = by_foun
           kept = λ column there. there;
         }
     by_found None is = record {
-      formed = eval_formed made first writing formed context columns expr some.kind shows some.is;
-      input = typed_made made first writing formed expr typed;
-      kept = typed_kept made first writing formed expr typed;
+      formed = eval_formed made start writing formed context columns expr some.kind shows some.is;
+      input = typed_made made start writing formed expr typed;
+      kept = typed_kept made start writing formed expr typed;
     }
 
 module _ {Item : Type 0} (expr_of : Item → Expr) where
@@ -284,19 +298,19 @@ module _ {Item : Type 0} (expr_of : Item → Expr) where
   AreInputsMade made (item ∷ items) writing =
       IsMadeAs made (input_of writing (expr_of item)) (typed_in writing (expr_of item)).kind × AreInputsMade made items (write_input writing (expr_of item))
 
-  pub record InputsAreFormed (made : List MadeColumn) (first : ℕ) (items : List Item) (writing : Writing) : Type 0 where
-    pub formed : IsFormed made first (write_inputs expr_of items writing)
+  pub record InputsAreFormed (made : List MadeColumn) (start : Start) (items : List Item) (writing : Writing) : Type 0 where
+    pub formed : IsFormed made start (write_inputs expr_of items writing)
     pub inputs : AreInputsMade (steps_made made (write_inputs expr_of items writing).steps) items writing
     pub kept : (column : MadeColumn) → Contains (steps_made made writing.steps) column → Contains (steps_made made (write_inputs expr_of items writing).steps) column
 
-  pub inputs_formed : (made : List MadeColumn) (first : ℕ) (context : Context) (columns : List Column) (items : List Item) (writing : Writing) → IsFormed made first writing → Shows writing columns
-      → All (λ (item : Item). HasSomeKind context columns (expr_of item)) items → InputsAreFormed made first items writing
-  inputs_formed made first context columns [] writing formed shows kinds = record { formed = formed; inputs = tt; kept = λ column there. there }
-  inputs_formed made first context columns (item ∷ items) writing formed shows kinds =
+  pub inputs_formed : (made : List MadeColumn) (start : Start) (context : Context) (columns : List Column) (items : List Item) (writing : Writing) → IsFormed made start writing → Shows writing columns
+      → All (λ (item : Item). HasSomeKind context columns (expr_of item)) items → InputsAreFormed made start items writing
+  inputs_formed made start context columns [] writing formed shows kinds = record { formed = formed; inputs = tt; kept = λ column there. there }
+  inputs_formed made start context columns (item ∷ items) writing formed shows kinds =
       let Kinded : Item → Type 0 = λ item. HasSomeKind context columns (expr_of item) in
       let expr : Expr = expr_of item in
-      let one = input_formed made first context columns expr writing formed shows (All-head Kinded item items kinds) in
-      let rest = inputs_formed made first context columns items (write_input writing expr) one.formed (input_shows columns writing expr shows) (All-tail Kinded item items kinds) in
+      let one = input_formed made start context columns expr writing formed shows (All-head Kinded item items kinds) in
+      let rest = inputs_formed made start context columns items (write_input writing expr) one.formed (input_shows columns writing expr shows) (All-tail Kinded item items kinds) in
       record {
         formed = rest.formed;
         inputs = (rest.kept (made_as (input_of writing expr) (typed_in writing expr).kind) one.input, rest.inputs);
@@ -316,22 +330,22 @@ keys_made made (key ∷ keys) writing inputs =
     All-cons (λ (key : PlanKey). IsMade made key.id) _ (keys_in_plan keys (write_input writing key.expr)) (is_made made (input_of writing key.expr) (typed_in writing key.expr).kind inputs.0)
     (keys_made made keys (write_input writing key.expr) inputs.1)
 
-pub sort_formed : (made : List MadeColumn) (first : ℕ) (context : Context) (keys : List SortKey) (columns after : List Column) (writing : Writing) → IsFormed made first writing → Shows writing columns
-    → shape_of_keys context keys columns ≡ Ok after → IsFormed made first (write_sort keys writing)
-sort_formed made first context keys columns after writing formed shows is =
-    let inputs = inputs_formed expr_of_key made first context columns keys writing formed shows (keys_kinds context keys columns after is) in
-    step_formed made first (write_keys keys writing) inputs.formed (step.Sort (keys_in_plan keys writing)) refl
+pub sort_formed : (made : List MadeColumn) (start : Start) (context : Context) (keys : List SortKey) (columns after : List Column) (writing : Writing) → IsFormed made start writing → Shows writing columns
+    → shape_of_keys context keys columns ≡ Ok after → IsFormed made start (write_sort keys writing)
+sort_formed made start context keys columns after writing formed shows is =
+    let inputs = inputs_formed expr_of_key made start context columns keys writing formed shows (keys_kinds context keys columns after is) in
+    step_formed made start (write_keys keys writing) inputs.formed (step.Sort (keys_in_plan keys writing)) refl
     (λ bounds. keys_made (steps_made made (write_keys keys writing).steps) keys writing inputs.inputs)
 
 -- fields in turn
-pub fields_formed : (made : List MadeColumn) (first : ℕ) (context : Context) (fields : List Field) (columns after : List Column) (writing : Writing) → IsFormed made first writing → Shows writing columns
-    → shape_of_fields context fields columns ≡ Ok after → IsFormed made first (write_fields context.text fields writing)
-fields_formed made first context [] columns after writing formed shows is = formed
-fields_formed made first context (field ∷ fields) columns after writing formed shows is =
+pub fields_formed : (made : List MadeColumn) (start : Start) (context : Context) (fields : List Field) (columns after : List Column) (writing : Writing) → IsFormed made start writing → Shows writing columns
+    → shape_of_fields context fields columns ≡ Ok after → IsFormed made start (write_fields context.text fields writing)
+fields_formed made start context [] columns after writing formed shows is = formed
+fields_formed made start context (field ∷ fields) columns after writing formed shows is =
     let found = found_of (shape_of_field context field columns) (shape_of_fields context fields) after is in
     let kinded = found_of (kind_or_rule field.expr (scope_over context columns)) (λ kind. Ok (put_column columns (name_of_field context.text field) kind)) found.value found.is in
-    fields_formed made first context fields found.value after (write_field context.text writing field)
-    (field_formed made first context columns field kinded.value writing formed shows kinded.is)
+    fields_formed made start context fields found.value after (write_field context.text writing field)
+    (field_formed made start context columns field kinded.value writing formed shows kinded.is)
     (field_shows context field columns found.value writing shows found.is)
     found.next_is
 

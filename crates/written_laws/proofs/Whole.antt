@@ -1,11 +1,11 @@
 -- The plan that a query is written as means what the query means.
-use Rattle.std.proofs.Common.{◌≡◌, ℕ, List, map, Ok, ap, sym, ◌∙◌}
+use Rattle.std.proofs.Common.{◌≡◌, ℕ, List, [], ◌++◌, map, Ok, ap, sym, ◌∙◌}
 use Rattle.std.proofs.lemmas.List.{append-nil}
 use Rattle.esql_types.specs.declared.names.Column.{Column}
 use Rattle.esql_ast.specs.declared.query.Query.{Query}
 use Rattle.esql_plan.specs.declared.catalog.Catalog.{Catalog}
 use Rattle.esql_plan.specs.Values.{NumberedRow}
-use Rattle.plan_semantics.specs.Tables.{TableHeld, catalog_tables, source_rows}
+use Rattle.plan_semantics.specs.Tables.{CatalogHeld, catalog_held, source_rows}
 use Rattle.plan_semantics.specs.Steps.{rows_after}
 use Rattle.plan_semantics.specs.Agrees.{Agrees}
 use Rattle.plan_semantics.specs.Plans.{columns_of, shown_row, plan_means}
@@ -24,28 +24,33 @@ use Rattle.query_semantics.proofs.Kinded.{found_of}
 use Rattle.written_laws.proofs.Commands.{commands_stand, limit_stands}
 use Rattle.written_laws.proofs.Sources.{source_stands}
 use Rattle.written_laws.proofs.Shown.{source_shows, commands_show}
-use Rattle.written_laws.proofs.StatsWhole.{query_whole}
+use Rattle.written_laws.proofs.Standing.{Stands}
 
 -- the rows that the source of the written plan gives
-abbrev pub start_of : List TableHeld → Catalog → Query → List NumberedRow
-start_of tables catalog query = source_rows tables (source_in_plan catalog query.source)
+abbrev pub start_of : CatalogHeld → Catalog → Query → List NumberedRow
+start_of held catalog query = source_rows held.tables (source_in_plan catalog query.source)
+
+-- what is written of a query that breaks no rule stands for what the query means
+query_stands : (text : List ℕ) (held : CatalogHeld) (catalog : Catalog) (query : Query) (columns : List Column) → catalog ≡ catalog_held held → shape_of text catalog query ≡ Ok columns
+    → Stands held (start_of held catalog query) (meaning_of text held query).rows ((meaning_of text held query).failures ++ []) (writing_of text catalog query)
+query_stands text held catalog query columns tables_are is =
+    let context : Context = record { text = text; catalog = catalog; accepts = is_accepted } in
+    let start : List NumberedRow = start_of held catalog query in
+    let found = found_of (shape_of_source context query.source) (shape_of_commands context query.commands) columns is in
+    let stand = commands_stand context held start (ap (λ (these : Catalog). these.policies) tables_are) query.commands found.value columns _ _ _
+    (source_shows context query.source found.value found.is) found.next_is
+    (source_stands text held catalog query.source (ap (λ (these : Catalog). these.tables) tables_are)) in
+    limit_stands held start _ _ _ stand (last_count query)
 
 -- the rows and the failures
-pub rows_are : (text : List ℕ) (tables : List TableHeld) (catalog : Catalog) (query : Query) (columns : List Column) → catalog.tables ≡ catalog_tables tables → shape_of text catalog query ≡ Ok columns
-    → (meaning_of text tables query).rows ≡ map (named_row (writing_of text catalog query).visible) (rows_after (writing_of text catalog query).steps (start_of tables catalog query))
-rows_are text tables catalog query columns tables_are is =
-    let start : List NumberedRow = start_of tables catalog query in
-    let whole = query_whole text catalog query columns is in
-    let stand = commands_stand text start query.commands whole _ _ _ (source_stands text tables catalog query.source tables_are) in
-    (limit_stands start _ _ _ stand text (record { 0 = 0 }) (last_count query)).rows_are
+pub rows_are : (text : List ℕ) (held : CatalogHeld) (catalog : Catalog) (query : Query) (columns : List Column) → catalog ≡ catalog_held held → shape_of text catalog query ≡ Ok columns
+    → (meaning_of text held query).rows ≡ map (named_row (writing_of text catalog query).visible) (rows_after held (writing_of text catalog query).steps (start_of held catalog query))
+rows_are text held catalog query columns tables_are is = (query_stands text held catalog query columns tables_are is).rows_are
 
-pub failures_are : (text : List ℕ) (tables : List TableHeld) (catalog : Catalog) (query : Query) (columns : List Column) → catalog.tables ≡ catalog_tables tables → shape_of text catalog query ≡ Ok columns
-    → (meaning_of text tables query).failures ≡ (plan_means (written_of text catalog query).plan tables).failures
-failures_are text tables catalog query columns tables_are is =
-    let start : List NumberedRow = start_of tables catalog query in
-    let whole = query_whole text catalog query columns is in
-    let stand = commands_stand text start query.commands whole _ _ _ (source_stands text tables catalog query.source tables_are) in
-    sym (append-nil (meaning_of text tables query).failures) ∙ (limit_stands start _ _ _ stand text (record { 0 = 0 }) (last_count query)).failures_are
+pub failures_are : (text : List ℕ) (held : CatalogHeld) (catalog : Catalog) (query : Query) (columns : List Column) → catalog ≡ catalog_held held → shape_of text catalog query ≡ Ok columns
+    → (meaning_of text held query).failures ≡ (plan_means (written_of text catalog query).plan held).failures
+failures_are text held catalog query columns tables_are is =
+    sym (append-nil (meaning_of text held query).failures) ∙ (query_stands text held catalog query columns tables_are is).failures_are
 
 -- the columns, where no rule is broken
 pub columns_are : (text : List ℕ) (catalog : Catalog) (query : Query) (columns : List Column) → shape_of text catalog query ≡ Ok columns
@@ -55,20 +60,20 @@ columns_are text catalog query columns is =
     let found = found_of (shape_of_source context query.source) (shape_of_commands context query.commands) columns is in
     commands_show context query.commands found.value columns (write_source text catalog query.source) (source_shows context query.source found.value found.is) found.next_is
 
-pub plan_is_meaning : (text : List ℕ) (tables : List TableHeld) (catalog : Catalog) (query : Query) (columns : List Column) → catalog.tables ≡ catalog_tables tables
+pub plan_is_meaning : (text : List ℕ) (held : CatalogHeld) (catalog : Catalog) (query : Query) (columns : List Column) → catalog ≡ catalog_held held
     → shape_of text catalog query ≡ Ok columns
-    → plan_means (written_of text catalog query).plan tables ≡ shown_under columns (meaning_of text tables query)
-plan_is_meaning text tables catalog query columns tables_are is =
+    → plan_means (written_of text catalog query).plan held ≡ shown_under columns (meaning_of text held query)
+plan_is_meaning text held catalog query columns tables_are is =
     let writing : Writing = writing_of text catalog query in
-    let after : List NumberedRow = rows_after writing.steps (start_of tables catalog query) in
-    let rows = ap (map cells_of) (rows_are text tables catalog query columns tables_are is)
+    let after : List NumberedRow = rows_after held writing.steps (start_of held catalog query) in
+    let rows = ap (map cells_of) (rows_are text held catalog query columns tables_are is)
     ∙ map_map cells_of (named_row writing.visible) after
     ∙ map_same (λ (row : NumberedRow). cells_of (named_row writing.visible row)) (shown_row writing.visible) (cells_of-named writing.visible) after in
     let columns_is = columns_are text catalog query columns is in
-    let failures = failures_are text tables catalog query columns tables_are is in
+    let failures = failures_are text held catalog query columns tables_are is in
     λ i. record { columns = sym columns_is i; rows = sym rows i; failures = sym failures i }
 
-pub plan_agrees : (text : List ℕ) (tables : List TableHeld) (catalog : Catalog) (query : Query) (columns : List Column) → catalog.tables ≡ catalog_tables tables
+pub plan_agrees : (text : List ℕ) (held : CatalogHeld) (catalog : Catalog) (query : Query) (columns : List Column) → catalog ≡ catalog_held held
     → shape_of text catalog query ≡ Ok columns
-    → Agrees (plan_means (written_of text catalog query).plan tables) (shown_under columns (meaning_of text tables query))
-plan_agrees text tables catalog query columns tables_are is = Agrees-same _ _ (plan_is_meaning text tables catalog query columns tables_are is)
+    → Agrees (plan_means (written_of text catalog query).plan held) (shown_under columns (meaning_of text held query))
+plan_agrees text held catalog query columns tables_are is = Agrees-same _ _ (plan_is_meaning text held catalog query columns tables_are is)
