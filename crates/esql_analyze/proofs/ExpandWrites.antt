@@ -19,13 +19,13 @@ use Rattle.query_semantics.proofs.Named.{columns-renumbered}
 use Rattle.esql_analyze.specs.declared.writing.Writing.{Writing as Made}
 use Rattle.esql_analyze.specs.Writings.{seen}
 
-abbrev seen_column : OutColumn → Column
+abbrev pub seen_column : OutColumn → Column
 seen_column column = record { name = column.name; kind = column.kind }
 
 abbrev pub id_of : OutColumn → ColId
 id_of column = column.id
 
-names_alike : (visible : List OutColumn) (name : List ℕ) → column_named (columns_of visible) name ≡ option_map seen_column (visible_named visible name)
+pub names_alike : (visible : List OutColumn) (name : List ℕ) → column_named (columns_of visible) name ≡ option_map seen_column (visible_named visible name)
 names_alike [] name = refl
 names_alike (column ∷ visible) name =
     elim (bytes_eq column.name name) as (λ found. cond found (Some (seen_column column)) (column_named (columns_of visible) name) ≡ option_map seen_column (cond found (Some column) (visible_named visible name)))
@@ -47,9 +47,9 @@ expand_refused column visible is = by_found (visible_named visible column.name) 
     by_found (Some one) named none = absurd cc
 
 pub expand_writes : (column : NameAt) (old new : Made) (id : ColId) → option_map id_of (visible_named old.visible column.name) ≡ Some id
-    → new.visible ≡ map (renumbered column.name old.next) old.visible → new.next ≡ old.next + 1 → new.patterns ≡ old.patterns → new.steps ≡ old.steps ++ step.Expand id (column_at old.next) ∷ []
+    → new.visible ≡ map (renumbered column.name old.next) old.visible → new.next ≡ old.next + 1 → new.patterns ≡ old.patterns → new.cutters ≡ old.cutters → new.steps ≡ old.steps ++ step.Expand id (column_at old.next) ∷ []
     → (seen new ≡ write_expand column.name (seen old)) × (shape_of_expand column (columns_of old.visible) ≡ Ok (columns_of new.visible))
-expand_writes column old new id is visible next read steps = by_found (visible_named old.visible column.name) refl is
+expand_writes column old new id is visible next read cut steps = by_found (visible_named old.visible column.name) refl is
   where
     by_found : (found : Option OutColumn) → visible_named old.visible column.name ≡ found → option_map id_of found ≡ Some id
         → (seen new ≡ write_expand column.name (seen old)) × (shape_of_expand column (columns_of old.visible) ≡ Ok (columns_of new.visible))
@@ -57,7 +57,7 @@ expand_writes column old new id is visible next read steps = by_found (visible_n
     by_found (Some one) named some =
         let own : one.id ≡ id = cc in
         let written = steps ∙ ap (λ (these : ColId). old.steps ++ step.Expand these (column_at old.next) ∷ []) (sym own) in (
-          (λ i. record { visible = visible i; next = next i; whole = (read i).whole; free = (read i).free; steps = written i })
+          (λ i. record { visible = visible i; next = next i; whole = (read i).whole; free = (read i).free; cutters = cut i; steps = written i })
               ∙ sym (ap (λ (found : Option OutColumn). write_expand_of found column.name (seen old)) named),
           shape_found column old.visible (Some one) named
               ∙ ap (λ (columns : List Column). let shape : Shape = Ok columns in shape) (sym (ap columns_of visible ∙ columns-renumbered column.name old.next old.visible)),

@@ -25,13 +25,13 @@ pub field_writes : (text : List ℕ) (field : Field) (old new : Made) (typed : T
     → typed ≡ typed_in (seen old) field.expr → kind_or_rule field.expr (scope_of is_accepted old.visible) ≡ Ok typed.kind
     → new.visible ≡ put_visible old.visible (name_of_field text field) typed.kind old.next → new.next ≡ old.next + 1
     → new.patterns.whole ≡ old.patterns.whole ++ (typing_of field.expr).whole → new.patterns.free ≡ old.patterns.free ++ (typing_of field.expr).free
-    → new.steps ≡ old.steps ++ step.Eval (column_at old.next) typed ∷ []
+    → new.cutters ≡ old.cutters → new.steps ≡ old.steps ++ step.Eval (column_at old.next) typed ∷ []
     → (seen new ≡ write_field text (seen old) field) × (shape_of_field (over text is_accepted) field (columns_of old.visible) ≡ Ok (columns_of new.visible))
-field_writes text field old new typed is kinded visible next whole free steps =
+field_writes text field old new typed is kinded visible next whole free cut steps =
     let name : List ℕ = name_of_field text field in
     let shown = visible ∙ ap (λ (these : TypedExpr). put_visible old.visible name these.kind old.next) is in
     let written = steps ∙ ap (λ (these : TypedExpr). old.steps ++ step.Eval (column_at old.next) these ∷ []) is in (
-      (λ i. record { visible = shown i; next = next i; whole = whole i; free = free i; steps = written i }),
+      (λ i. record { visible = shown i; next = next i; whole = whole i; free = free i; cutters = cut i; steps = written i }),
       ap (λ (found : Result Kind Broken). and_then found (λ kind. Ok (put_column (columns_of old.visible) name kind))) kinded
           ∙ ap (λ (columns : List Column). let shape : Shape = Ok columns in shape) (columns_put old.visible name typed.kind old.next ∙ ap columns_of (sym visible)),
     )

@@ -36,11 +36,11 @@ case_kind condition kind.Null = refl
 
 -- a step that makes a column of a typed expression
 pub typed_written : (expr : Expr) (old made new : Made) (typed : TypedExpr) → seen made ≡ with_patterns expr (seen old)
-    → new.visible ≡ made.visible → new.next ≡ made.next + 1 → new.patterns ≡ made.patterns → new.steps ≡ made.steps ++ step.Eval (column_at made.next) typed ∷ []
+    → new.visible ≡ made.visible → new.next ≡ made.next + 1 → new.patterns ≡ made.patterns → new.cutters ≡ made.cutters → new.steps ≡ made.steps ++ step.Eval (column_at made.next) typed ∷ []
     → seen new ≡ write_typed (seen old) expr typed
-typed_written expr old made new typed is visible next read steps =
+typed_written expr old made new typed is visible next read cut steps =
     let after : Writing → Writing = λ writing. record writing { next = writing.next + 1; steps = writing.steps ++ step.Eval (column_at writing.next) typed ∷ [] } in
-    let own : seen new ≡ after (seen made) = λ i. record { visible = visible i; next = next i; whole = (read i).whole; free = (read i).free; steps = steps i } in
+    let own : seen new ≡ after (seen made) = λ i. record { visible = visible i; next = next i; whole = (read i).whole; free = (read i).free; cutters = cut i; steps = steps i } in
     own ∙ ap after is
 
 -- a field that is a column reads no pattern
@@ -52,7 +52,7 @@ column_written old expr calls typed visible (Some id) bare =
     let none = bare id refl in
     let whole = ap (λ (more : List (List ℕ)). old.whole ++ more) none.0 ∙ append-nil old.whole in
     let free = ap (λ (more : List (List ℕ)). old.free ++ more) none.1 ∙ append-nil old.free in
-    λ i. record { visible = visible; next = old.next; whole = whole i; free = free i; steps = old.steps }
+    λ i. record { visible = visible; next = old.next; whole = whole i; free = free i; cutters = old.cutters; steps = old.steps }
 
 pub field_written : (text : List ℕ) (before : List OutColumn) (number : ℕ) (stats : StatsField) (old made new : Writing) (typed : TypedExpr)
     → typed ≡ field_typed before number old stats.field.expr → made ≡ with_patterns stats.field.expr old

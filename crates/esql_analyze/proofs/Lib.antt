@@ -29,3 +29,8 @@ pub mod Tables
 pub mod SourceWrites
 pub mod QueryWrites
 pub mod CommandWrites
+pub mod AppendedWrites
+pub mod PolicyFields
+pub mod NewColumns
+pub mod EnrichWrites
+pub mod GrokReads

@@ -34,35 +34,35 @@ apart_is visible apart names shown = (λ i. joined (names i) (shown i)) ∙ join
 
 pub kept_writes : (patterns : List NamePattern) (old new : Made) (apart : Apart) (places : List ℕ) → apart.names ≡ visible_names old.visible → apart.shown ≡ map shown_of old.visible
     → places ≡ keep_places apart.names patterns → first_unmet apart.names patterns ≡ None
-    → new.visible ≡ at_places places (joined apart.names apart.shown) → new.next ≡ old.next → new.patterns ≡ old.patterns → new.steps ≡ old.steps
+    → new.visible ≡ at_places places (joined apart.names apart.shown) → new.next ≡ old.next → new.patterns ≡ old.patterns → new.cutters ≡ old.cutters → new.steps ≡ old.steps
     → (seen new ≡ write_keep patterns (seen old)) × (shape_of_keep patterns (columns_of old.visible) ≡ Ok (columns_of new.visible))
-kept_writes patterns old new apart places names shown are met visible next read steps =
+kept_writes patterns old new apart places names shown are met visible next read cut steps =
     let written : new.visible ≡ at_places (keep_places (visible_names old.visible) patterns) old.visible = visible ∙ (λ i. at_places ((are ∙ ap (λ these. keep_places these patterns) names) i) (apart_is old.visible apart names shown i)) in
     let unmet : first_unmet (names_of (columns_of old.visible)) patterns ≡ None = ap (λ these. first_unmet these patterns) (names_of-columns old.visible ∙ sym names) ∙ met in (
-      (λ i. record { visible = written i; next = next i; whole = (read i).whole; free = (read i).free; steps = steps i }),
+      (λ i. record { visible = written i; next = next i; whole = (read i).whole; free = (read i).free; cutters = cut i; steps = steps i }),
       (λ i. unless_unmet (unmet i) (columns-kept patterns old.visible i)) ∙ ap (λ (these : List OutColumn). let shape : Shape = Ok (columns_of these) in shape) (sym written),
     )
 
 pub left_writes : (patterns : List NamePattern) (old new : Made) (apart : Apart) (places : List ℕ) → apart.names ≡ visible_names old.visible → apart.shown ≡ map shown_of old.visible
     → places ≡ drop_places apart.names patterns → first_unmet apart.names patterns ≡ None
-    → new.visible ≡ at_places places (joined apart.names apart.shown) → new.next ≡ old.next → new.patterns ≡ old.patterns → new.steps ≡ old.steps
+    → new.visible ≡ at_places places (joined apart.names apart.shown) → new.next ≡ old.next → new.patterns ≡ old.patterns → new.cutters ≡ old.cutters → new.steps ≡ old.steps
     → (seen new ≡ write_drop patterns (seen old)) × (shape_of_drop patterns (columns_of old.visible) ≡ Ok (columns_of new.visible))
-left_writes patterns old new apart places names shown are met visible next read steps =
+left_writes patterns old new apart places names shown are met visible next read cut steps =
     let written : new.visible ≡ at_places (drop_places (visible_names old.visible) patterns) old.visible = visible ∙ (λ i. at_places ((are ∙ ap (λ these. drop_places these patterns) names) i) (apart_is old.visible apart names shown i)) in
     let unmet : first_unmet (names_of (columns_of old.visible)) patterns ≡ None = ap (λ these. first_unmet these patterns) (names_of-columns old.visible ∙ sym names) ∙ met in (
-      (λ i. record { visible = written i; next = next i; whole = (read i).whole; free = (read i).free; steps = steps i }),
+      (λ i. record { visible = written i; next = next i; whole = (read i).whole; free = (read i).free; cutters = cut i; steps = steps i }),
       (λ i. unless_unmet (unmet i) (columns-left patterns old.visible i)) ∙ ap (λ (these : List OutColumn). let shape : Shape = Ok (columns_of these) in shape) (sym written),
     )
 
 pub renamed_writes : (pairs : List RenamePair) (old new : Made) (apart : Apart) (renamed : List Renaming) → apart.names ≡ visible_names old.visible → apart.shown ≡ map shown_of old.visible
     → renamed ≡ renamings apart.names pairs → first_missing apart.names pairs ≡ None
-    → new.visible ≡ shown_under renamed apart.shown → new.next ≡ old.next → new.patterns ≡ old.patterns → new.steps ≡ old.steps
+    → new.visible ≡ shown_under renamed apart.shown → new.next ≡ old.next → new.patterns ≡ old.patterns → new.cutters ≡ old.cutters → new.steps ≡ old.steps
     → (seen new ≡ write_rename pairs (seen old)) × (shape_of_rename pairs (columns_of old.visible) ≡ Ok (columns_of new.visible))
-renamed_writes pairs old new apart renamed names shown are there visible next read steps =
+renamed_writes pairs old new apart renamed names shown are there visible next read cut steps =
     let written : new.visible ≡ renamed_by visible_as (renamings (visible_names old.visible) pairs) old.visible =
     visible ∙ (λ i. shown_under ((are ∙ ap (λ these. renamings these pairs) names) i) (shown i)) ∙ shown_renamed (renamings (visible_names old.visible) pairs) old.visible in
     let missing : first_missing (names_of (columns_of old.visible)) pairs ≡ None = ap (λ these. first_missing these pairs) (names_of-columns old.visible ∙ sym names) ∙ there in (
-      (λ i. record { visible = written i; next = next i; whole = (read i).whole; free = (read i).free; steps = steps i }),
+      (λ i. record { visible = written i; next = next i; whole = (read i).whole; free = (read i).free; cutters = cut i; steps = steps i }),
       (λ i. unless_missing (missing i) (columns-renamed pairs old.visible i)) ∙ ap (λ (these : List OutColumn). let shape : Shape = Ok (columns_of these) in shape) (sym written),
     )
 

@@ -25,10 +25,10 @@ put_shown visible name kind number =
 
 pub less_room : (writing : Writing) (room less : ℕ) → less ≤ room → HasRoom writing room → HasRoom writing less
 less_room writing room less fewer has =
-    record { shown = omega (arith, has.shown, fewer); columns = omega (arith, has.columns, fewer); whole = omega (arith, has.whole, fewer); free = omega (arith, has.free, fewer) }
+    record { shown = omega (arith, has.shown, fewer); columns = omega (arith, has.columns, fewer); whole = omega (arith, has.whole, fewer); free = omega (arith, has.free, fewer); cutters = omega (arith, has.cutters, fewer) }
 
 pub same_room : (writing : Writing) (taken more : ℕ) → HasRoom writing (taken + more) → HasRoom writing more
-same_room writing taken more room = record { shown = omega (arith, room.shown); columns = omega (arith, room.columns); whole = omega (arith, room.whole); free = omega (arith, room.free) }
+same_room writing taken more room = record { shown = omega (arith, room.shown); columns = omega (arith, room.columns); whole = omega (arith, room.whole); free = omega (arith, room.free); cutters = omega (arith, room.cutters) }
 
 pub input_room : (expr : Expr) (writing : Writing) (more : ℕ) → HasRoom writing (length (nodes_of_expr expr) + more) → HasRoom (write_input writing expr) more
 input_room expr writing more room = by_column (column_of_typed (typed_in writing expr))
@@ -43,4 +43,5 @@ input_room expr writing more room = by_column (column_of_typed (typed_in writing
           columns = omega (arith, room.columns, some);
           whole = omega (arith, room.whole, most.whole, length-append writing.whole (typing_of expr).whole);
           free = omega (arith, room.free, most.free, length-append writing.free (typing_of expr).free);
+          cutters = omega (arith, room.cutters);
         }

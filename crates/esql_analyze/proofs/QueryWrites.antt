@@ -9,12 +9,12 @@ use Rattle.query_semantics.specs.Shapes.{shape_of_source, shape_of_commands, sha
 use Rattle.expression_analysis.specs.declared.error.AnalyzeError.{AnalyzeError}
 use Rattle.expression_analysis.specs.Answers.{IsRefusal}
 use Rattle.esql_analyze.specs.declared.writing.Writing.{Writing as Made}
-use Rattle.esql_analyze.specs.Contexts.{over, over_catalog}
+use Rattle.esql_analyze.specs.Contexts.{over_catalog}
 use Rattle.esql_analyze.proofs.ShapeStays.{refused_behind, source_stays}
 
 -- and one that is broken by a command behind it
 pub commands_refused : (text : List ℕ) (catalog : Catalog) (query : Query) (begun : Made) (error : AnalyzeError) → shape_of_source (over_catalog text catalog is_accepted) query.source ≡ Ok (columns_of begun.visible)
-    → IsRefusal (λ accepts. shape_of_commands (over text accepts) query.commands (columns_of begun.visible)) error → IsRefusal (λ accepts. shape_in (over_catalog text catalog accepts) query) error
+    → IsRefusal (λ accepts. shape_of_commands (over_catalog text catalog accepts) query.commands (columns_of begun.visible)) error → IsRefusal (λ accepts. shape_in (over_catalog text catalog accepts) query) error
 commands_refused text catalog query begun error is refused =
     let columns : List Column = columns_of begun.visible in
     refused_behind (λ accepts. shape_of_source (over_catalog text catalog accepts) query.source) (λ accepts. shape_of_commands (over_catalog text catalog accepts) query.commands) columns error

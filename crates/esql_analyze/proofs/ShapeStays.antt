@@ -1,7 +1,8 @@
 -- Where one more pattern is not accepted, the shapes of commands are as they were, or refuse at that pattern; and how refusals go
 -- on behind what was judged before.
-use Rattle.std.proofs.Common.{◌≡◌, inl, inr, ℕ, Bool, List, [], ◌∷◌, Result, Ok, Err, refl, ap, ◌∙◌}
+use Rattle.std.proofs.Common.{◌≡◌, inl, inr, ℕ, Bool, true, false, List, [], ◌∷◌, Option, Some, None, Result, Ok, Err, refl, ap, ◌∙◌}
 use Rattle.std.specs.Prelude.{if◌then◌else◌}
+use Rattle.esql_types.specs.declared.places.Span.{Span}
 use Rattle.esql_types.specs.declared.value.Kind.{Kind}
 use Rattle.esql_types.specs.declared.value.Kind.TheVariants as kind
 use Rattle.esql_types.specs.declared.names.Column.{Column}
@@ -12,21 +13,27 @@ use Rattle.esql_ast.specs.declared.query.Command.{Command}
 use Rattle.esql_ast.specs.declared.query.CommandKind.{CommandKind}
 use Rattle.esql_ast.specs.declared.query.CommandKind.TheVariants.{Filter, Eval, Keep, Drop, Rename, Sort, Limit, Expand, Stats, Dissect, Grok, Enrich, Join}
 use Rattle.esql_ast.specs.declared.query.SourceCommand.{SourceCommand}
+use Rattle.esql_ast.specs.declared.query.TextAt.{TextAt}
 use Rattle.esql_ast.specs.declared.query.SourceCommand.TheVariants.{Tables, OneRow}
 use Rattle.esql_plan.specs.declared.catalog.Catalog.{Catalog}
 use Rattle.esql_plan.specs.Signatures.{is_kind}
+use Rattle.dissect_grok.specs.Patterns.{reading_of}
+use Rattle.dissect_grok.specs.Groks.{GrokRead, grok_of}
+use Rattle.plan_semantics.specs.Taken.{columns_of_grok}
 use Rattle.row_semantics.specs.declared.rule.NameRule.TheVariants as rule
 use Rattle.row_semantics.specs.Fields.{name_of_field}
 use Rattle.row_semantics.specs.Columns.{put_column}
 use Rattle.row_semantics.specs.Regulars.{Regular, is_accepted}
 use Rattle.row_semantics.specs.Scopes.{Broken, elsewhere}
 use Rattle.row_semantics.specs.Kinds.{breaks, and_then, kind_or_rule}
+use Rattle.query_semantics.specs.Appended.{put_columns}
+use Rattle.query_semantics.specs.AppendedShapes.{if_keyword, shape_of_reading, shape_of_dissect, regular_of_grok, shape_of_grok_read, shape_of_grok}
 use Rattle.query_semantics.specs.Shapes.{Shape, Context, scope_over, shape_of_keys, shape_of_field, shape_of_fields, shape_of_condition, shape_of_kind, unless_empty, shape_of_command, shape_of_source}
 use Rattle.expression_analysis.specs.declared.error.AnalyzeError.{AnalyzeError}
 use Rattle.expression_analysis.specs.declared.error.AnalyzeError.TheVariants.{Broken as BrokenAt, PatternRoom, Memory}
 use Rattle.expression_analysis.specs.Answers.{accepted_but, IsRefusal}
 use Rattle.esql_analyze.specs.Contexts.{over, over_catalog}
-use Rattle.esql_analyze.proofs.Stays.{Stays, then_stays, expr_stays}
+use Rattle.esql_analyze.proofs.Stays.{Stays, then_stays, expr_stays, regular_stays}
 use Rattle.esql_analyze.proofs.StatsStays.{stats_stay}
 
 -- what is refused behind something that is found refuses both
@@ -101,25 +108,49 @@ keys_alike text other accepts [] columns = refl
 keys_alike text other accepts (key ∷ keys) columns =
     ap (λ (rest : Shape). and_then (kind_or_rule key.expr (scope_over (over text accepts) columns)) (λ kind. rest)) (keys_alike text other accepts keys columns)
 
-pub kind_stays : (text : List ℕ) (command : CommandKind) (columns : List Column) → Stays (λ accepts. shape_of_kind (over text accepts) command columns)
-kind_stays text (Filter condition) columns span = condition_stays text condition columns span
-kind_stays text (Eval fields) columns span = fields_stay text fields columns span
-kind_stays text (Keep patterns) columns span = inl refl
-kind_stays text (Drop patterns) columns span = inl refl
-kind_stays text (Rename pairs) columns span = inl refl
-kind_stays text (Sort keys) columns span = keys_stay text keys columns span
-kind_stays text (Limit count) columns span = inl refl
-kind_stays text (Expand column) columns span = inl refl
-kind_stays text (Stats fields groups) columns span = stats_stay text fields groups columns span
-kind_stays text (Dissect input pattern separator) columns span = inl refl
-kind_stays text (Grok input pattern) columns span = inl refl
-kind_stays text (Enrich policy on fields) columns span = inl refl
-kind_stays text (Join table on) columns span = inl refl
+keyword_stays : (input : Expr) (columns : List Column) (next : (Regular → Bool) → Shape) → Stays next → Stays (λ accepts. and_then (kind_or_rule input (record { columns = columns; standing = elsewhere; accepts = accepts })) (if_keyword input (next accepts)))
+keyword_stays input columns next stays =
+    let after : (Regular → Bool) → Kind → Shape = λ accepts found. if_keyword input (next accepts) found in
+    then_stays (λ accepts. kind_or_rule input (record { columns = columns; standing = elsewhere; accepts = accepts })) after (expr_stays input columns elsewhere)
+    (λ found. either_stays (is_kind kind.Keyword found) next (breaks rule.BadKind input.span) stays)
+  where
+    either_stays : (is : Bool) (next : (Regular → Bool) → Shape) (other : Shape) → Stays next → Stays (λ accepts. if is then next accepts else other)
+    either_stays true next other stays span = stays span
+    either_stays false next other stays span = inl refl
 
-pub command_stays : (text : List ℕ) (command : Command) (columns : List Column) → Stays (λ accepts. shape_of_command (over text accepts) command columns)
-command_stays text command columns =
+dissect_stays : (input : Expr) (pattern : TextAt) (separator : List ℕ) (columns : List Column) → Stays (λ accepts. shape_of_dissect accepts input pattern separator columns)
+dissect_stays input pattern separator columns =
+    let next : (Regular → Bool) → Shape = λ accepts. shape_of_reading (reading_of pattern.text separator) pattern.span columns in
+    keyword_stays input columns next (λ span. inl refl)
+
+grok_read_stays : (read : Option GrokRead) (at : Span) (columns : List Column) → Stays (λ accepts. shape_of_grok_read accepts read at columns)
+grok_read_stays None at columns span = inl refl
+grok_read_stays (Some read) at columns span = regular_stays (regular_of_grok at read) (Ok (put_columns columns (columns_of_grok (Some read)))) span
+
+grok_stays : (input : Expr) (pattern : TextAt) (columns : List Column) → Stays (λ accepts. shape_of_grok accepts input pattern columns)
+grok_stays input pattern columns =
+    let next : (Regular → Bool) → Shape = λ accepts. shape_of_grok_read accepts (grok_of pattern.text) pattern.span columns in
+    keyword_stays input columns next (grok_read_stays (grok_of pattern.text) pattern.span columns)
+
+pub kind_stays : (text : List ℕ) (catalog : Catalog) (command : CommandKind) (columns : List Column) → Stays (λ accepts. shape_of_kind (over_catalog text catalog accepts) command columns)
+kind_stays text catalog (Filter condition) columns span = condition_stays text condition columns span
+kind_stays text catalog (Eval fields) columns span = fields_stay text fields columns span
+kind_stays text catalog (Keep patterns) columns span = inl refl
+kind_stays text catalog (Drop patterns) columns span = inl refl
+kind_stays text catalog (Rename pairs) columns span = inl refl
+kind_stays text catalog (Sort keys) columns span = keys_stay text keys columns span
+kind_stays text catalog (Limit count) columns span = inl refl
+kind_stays text catalog (Expand column) columns span = inl refl
+kind_stays text catalog (Stats fields groups) columns span = stats_stay text fields groups columns span
+kind_stays text catalog (Dissect input pattern separator) columns span = dissect_stays input pattern separator columns span
+kind_stays text catalog (Grok input pattern) columns span = grok_stays input pattern columns span
+kind_stays text catalog (Enrich policy on fields) columns span = inl refl
+kind_stays text catalog (Join table on) columns span = inl refl
+
+pub command_stays : (text : List ℕ) (catalog : Catalog) (command : Command) (columns : List Column) → Stays (λ accepts. shape_of_command (over_catalog text catalog accepts) command columns)
+command_stays text catalog command columns =
     let next : (Regular → Bool) → List Column → Shape = λ accepts. unless_empty command.span in
-    then_stays (λ accepts. shape_of_kind (over text accepts) command.kind columns) next (kind_stays text command.kind columns) (λ more span. inl refl)
+    then_stays (λ accepts. shape_of_kind (over_catalog text catalog accepts) command.kind columns) next (kind_stays text catalog command.kind columns) (λ more span. inl refl)
 
 -- the shape of a source stays, and the fields of ROW do not look at the catalog
 pub source_stays : (text : List ℕ) (catalog : Catalog) (source : SourceCommand) → Stays (λ accepts. shape_of_source (over_catalog text catalog accepts) source)

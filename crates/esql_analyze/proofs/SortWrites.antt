@@ -45,11 +45,11 @@ key_refused key old error refused = refused_first (λ accepts. kind_or_rule key.
 
 -- all keys, then the step
 pub sort_writes : (keys : List SortKey) (start made new : Made) (in_plan : List PlanKey) → Along keys_turn keys start [] made → in_plan ++ [] ≡ keys_in_plan keys (seen start)
-    → new.visible ≡ made.visible → new.next ≡ made.next → new.patterns ≡ made.patterns → new.steps ≡ made.steps ++ step.Sort in_plan ∷ []
+    → new.visible ≡ made.visible → new.next ≡ made.next → new.patterns ≡ made.patterns → new.cutters ≡ made.cutters → new.steps ≡ made.steps ++ step.Sort in_plan ∷ []
     → (seen new ≡ write_sort keys (seen start)) × (shape_of_keys (over [] is_accepted) keys (columns_of start.visible) ≡ Ok (columns_of new.visible))
-sort_writes keys start made new in_plan along are visible next read steps =
+sort_writes keys start made new in_plan along are visible next read cut steps =
     let written = steps ∙ ap (λ (these : List PlanKey). made.steps ++ step.Sort these ∷ []) (sym (append-nil in_plan) ∙ are) in (
-      (λ i. record { visible = visible i; next = next i; whole = (read i).whole; free = (read i).free; steps = written i })
+      (λ i. record { visible = visible i; next = next i; whole = (read i).whole; free = (read i).free; cutters = cut i; steps = written i })
           ∙ ap (λ (writing : Writing). record writing { steps = writing.steps ++ step.Sort (keys_in_plan keys (seen start)) ∷ [] }) along.written,
       sym along.shape ∙ ap (λ these. let shape : Shape = Ok (columns_of these) in shape) (sym visible),
     )

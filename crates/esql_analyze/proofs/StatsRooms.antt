@@ -34,6 +34,7 @@ flag_room (Some condition) writing more room =
       columns = omega (arith, room.columns);
       whole = omega (arith, room.whole, most.whole, length-append writing.whole (typing_of condition.expr).whole);
       free = omega (arith, room.free, most.free, length-append writing.free (typing_of condition.expr).free);
+      cutters = omega (arith, room.cutters);
     }
 
 -- a call has room for its own column behind that of its argument
@@ -51,6 +52,7 @@ call_room flag call writing more room = by_argument flag call.argument room
           columns = omega (arith, room.columns, some);
           whole = omega (arith, room.whole, most.whole, length-append writing.whole (typing_of argument).whole);
           free = omega (arith, room.free, most.free, length-append writing.free (typing_of argument).free);
+          cutters = omega (arith, room.cutters);
         }
 
 pub calls_room : (flag : Option Flag) (calls : List AggregateCall) (writing : Writing) (more : ℕ) → HasRoom writing (size_of_calls calls + more) → HasRoom (write_calls flag calls writing) (length calls + more)
@@ -121,14 +123,14 @@ groups_few (group ∷ groups) =
 
 pub grouping_room : (calls : List CallInput) (groups : List GroupInput) (writing : Writing) (more : ℕ) → HasRoom writing (length calls + length groups + more) → HasRoom (write_grouping calls groups writing) more
 grouping_room calls groups writing more room =
-    record { shown = omega (arith, room.columns); columns = omega (arith, room.columns); whole = omega (arith, room.whole); free = omega (arith, room.free) }
+    record { shown = omega (arith, room.columns); columns = omega (arith, room.columns); whole = omega (arith, room.whole); free = omega (arith, room.free); cutters = omega (arith, room.cutters) }
 
 field_by_room : (found : Option ColId) (writing : Writing) (expr : Expr) (typed : TypedExpr) (name : List ℕ) (kind : Kind) (number more : ℕ) → HasRoom writing (length (nodes_of_expr expr) + more)
     → HasRoom (record (write_field_by found writing expr typed) { visible = put_visible writing.visible name kind number }) more
 field_by_room (Some id) writing expr typed name kind number more room =
     let some = some_node expr in
     let shown = put_shown writing.visible name kind number in
-    record { shown = omega (arith, room.shown, shown, some); columns = omega (arith, room.columns); whole = omega (arith, room.whole); free = omega (arith, room.free) }
+    record { shown = omega (arith, room.shown, shown, some); columns = omega (arith, room.columns); whole = omega (arith, room.whole); free = omega (arith, room.free); cutters = omega (arith, room.cutters) }
 field_by_room None writing expr typed name kind number more room =
     let most = patterns_at_most expr in
     let some = some_node expr in
@@ -138,6 +140,7 @@ field_by_room None writing expr typed name kind number more room =
       columns = omega (arith, room.columns, some);
       whole = omega (arith, room.whole, most.whole, length-append writing.whole (typing_of expr).whole);
       free = omega (arith, room.free, most.free, length-append writing.free (typing_of expr).free);
+      cutters = omega (arith, room.cutters);
     }
 
 pub field_room : (text : List ℕ) (before : List OutColumn) (number : ℕ) (stats : StatsField) (writing : Writing) (more : ℕ) → HasRoom writing (length (nodes_of_stats stats) + more)
@@ -188,7 +191,7 @@ behind_room text before number calls fields groups inputs writing more room few 
     let after = fields_room text before number fields writing more room in
     let many = fields_many text before number fields writing in
     let shown = groups_shown text (number + calls) groups inputs (write_stats_fields text before number fields writing).visible in
-    record { shown = omega (arith, few, many, shown); columns = omega (arith, after.columns); whole = omega (arith, after.whole); free = omega (arith, after.free) }
+    record { shown = omega (arith, few, many, shown); columns = omega (arith, after.columns); whole = omega (arith, after.whole); free = omega (arith, after.free); cutters = omega (arith, after.cutters) }
 
 -- room before the groups are made, for what comes behind
 pub inputs_room : (fields : List StatsField) (groups : List Field) (writing : Writing) (more : ℕ) → HasRoom writing (2 * length (flat_map nodes_of_stats fields ++ flat_map nodes_of_field groups) + more)

@@ -55,13 +55,17 @@ but_cases span regular = by_place (same_span span regular.span) refl (is_accepte
     by_place false is true = inl refl
     by_place false is false = inl refl
 
+-- what follows where a pattern is accepted
+pub regular_stays : {A : Type 0} (regular : Regular) (after : Result A Broken) → Stays (λ accepts. cond (accepts regular) after (breaks rule.BadRegex regular.span))
+regular_stays regular after span =
+    elim (but_cases span regular) [
+      | inl stays ↦ inl (ap (λ (accepted : Bool). cond accepted after (breaks rule.BadRegex regular.span)) stays)
+      | inr refuses ↦ inr (ap (λ (accepted : Bool). cond accepted after (breaks rule.BadRegex regular.span)) refuses.0 ∙ ap (λ (at : Span). breaks rule.BadRegex at) refuses.1)
+    ]
+
 accepted_stays : (found : Option Regular) (columns : List Column) (standing : Standing) (kind : Kind) → Stays (λ accepts. if_accepted found (record { columns = columns; standing = standing; accepts = accepts }) kind)
 accepted_stays None columns standing kind span = inl refl
-accepted_stays (Some regular) columns standing kind span =
-    elim (but_cases span regular) [
-      | inl stays ↦ inl (ap (λ (accepted : Bool). cond accepted (Ok kind) (breaks rule.BadRegex regular.span)) stays)
-      | inr refuses ↦ inr (ap (λ (accepted : Bool). cond accepted (Ok kind) (breaks rule.BadRegex regular.span)) refuses.0 ∙ ap (λ (at : Span). breaks rule.BadRegex at) refuses.1)
-    ]
+accepted_stays (Some regular) columns standing kind span = regular_stays regular (Ok kind) span
 
 fitting_stays : (place : Option ℕ) (spans : List Span) (own : Span) (next : (Regular → Bool) → Result Kind Broken) → Stays next → Stays (λ accepts. fitting place spans own (next accepts))
 fitting_stays None spans own next stays span = stays span

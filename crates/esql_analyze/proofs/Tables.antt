@@ -123,15 +123,16 @@ numbered_length : (number : ℕ) (columns : List Column) → length (numbered_fr
 numbered_length number [] = refl
 numbered_length number (column ∷ columns) = let rest = numbered_length (number + 1) columns in omega (arith, rest)
 
-columns_room : (columns : List Column) (more : ℕ) → length columns ≤ 400000 → more ≤ 131074 → HasRoom (writing_of_columns columns) more
+columns_room : (columns : List Column) (more : ℕ) → length columns ≤ 400000 → more ≤ 80131074 → HasRoom (writing_of_columns columns) more
 columns_room columns more few nodes = record {
   shown = let same = numbered_length 0 columns in omega (arith, same, few, nodes);
   columns = omega (arith, few, nodes);
   whole = omega (arith, nodes);
   free = omega (arith, nodes);
+  cutters = omega (arith, nodes);
 }
 
-found_room : (catalog : Catalog) (names : List NameAt) (found : Result (List Column) Broken) (more : ℕ) → columns_of_tables catalog.tables names ≡ found → IsCatalog catalog → more ≤ 131074
+found_room : (catalog : Catalog) (names : List NameAt) (found : Result (List Column) Broken) (more : ℕ) → columns_of_tables catalog.tables names ≡ found → IsCatalog catalog → more ≤ 80131074
     → HasRoom (writing_of_columns (columns_or_none found)) more
 found_room catalog names (Ok columns) more is fine nodes =
     let few = columns_few catalog.tables names columns is in
@@ -139,7 +140,7 @@ found_room catalog names (Ok columns) more is fine nodes =
 found_room catalog names (Err broken) more is fine nodes = columns_room [] more (omega arith) nodes
 
 -- what a source writes leaves room for the nodes that are left
-pub source_room : (text : List ℕ) (catalog : Catalog) (source : SourceCommand) (more : ℕ) → IsCatalog catalog → length (nodes_of_source source) + more ≤ 131074 → HasRoom (write_source text catalog source) more
+pub source_room : (text : List ℕ) (catalog : Catalog) (source : SourceCommand) (more : ℕ) → IsCatalog catalog → length (nodes_of_source source) + more ≤ 80131074 → HasRoom (write_source text catalog source) more
 source_room text catalog (Tables node span names) more fine nodes = found_room catalog names (columns_of_tables catalog.tables names) more refl fine (omega (arith, nodes))
 source_room text catalog (OneRow node span fields) more fine nodes =
     fields_room text fields (writing_of_columns []) more (columns_room [] (length (flat_map nodes_of_field fields) + more) (omega arith) (omega (arith, nodes)))

@@ -1,26 +1,27 @@
 -- What is written item after item, each over the columns of those before it.
-use Rattle.std.proofs.Common.{◌≡◌, ℕ, suc, ◌+◌, ◌*◌, ◌<◌, Bool, List, [], ◌∷◌, ◌++◌, length, fold, drop, get_or, Result, Ok, Err, refl, ap, sym, subst, ◌∙◌, arith}
+use Rattle.std.proofs.Common.{◌≡◌, ℕ, suc, ◌+◌, ◌*◌, ◌<◌, Bool, List, [], ◌∷◌, length, fold, drop, get_or, Result, Ok, Err, refl, ap, sym, subst, ◌∙◌, arith}
 use Rattle.std.specs.List.{flat_map}
 use Rattle.std.proofs.Math.Seq.{drop-cons}
 use Rattle.std.proofs.lemmas.List.{length-append}
 use Rattle.std.proofs.lemmas.Result.{err_from_is_err_and}
 use Rattle.std.specs.Result.{IsErrAnd}
 use Rattle.esql_types.specs.declared.names.Column.{Column}
-use Rattle.esql_ast.specs.declared.nodes.NodeAt.{NodeAt}
 use Rattle.esql_ast.specs.declared.query.Field.{Field}
 use Rattle.esql_ast.specs.declared.query.SortKey.{SortKey}
 use Rattle.esql_ast.specs.declared.query.Command.{Command}
+use Rattle.esql_plan.specs.declared.catalog.Catalog.{Catalog}
 use Rattle.esql_ast.specs.Nodes.{nodes_of_field, nodes_of_key, nodes_of_command}
 use Rattle.plan_semantics.specs.Plans.{columns_of}
 use Rattle.row_semantics.specs.Regulars.{Regular, is_accepted}
 use Rattle.row_semantics.specs.Kinds.{and_then}
+use Rattle.query_semantics.specs.Sizes.{appended_by, appended_in}
 use Rattle.query_semantics.specs.Shapes.{Shape, shape_of_field, shape_of_fields, shape_of_keys, shape_of_command, shape_of_commands}
 use Rattle.query_semantics.specs.Writings.{Writing, write_input}
 use Rattle.query_semantics.specs.Written.{write_field, write_command}
 use Rattle.expression_analysis.specs.declared.error.AnalyzeError.{AnalyzeError}
 use Rattle.expression_analysis.specs.Answers.{IsRefusal}
 use Rattle.esql_analyze.specs.declared.writing.Writing.{Writing as Made}
-use Rattle.esql_analyze.specs.Contexts.{over}
+use Rattle.esql_analyze.specs.Contexts.{over, over_catalog}
 use Rattle.esql_analyze.specs.Writings.{seen, HasRoom}
 use Rattle.esql_analyze.proofs.Stays.{Stays}
 use Rattle.esql_analyze.proofs.ShapeStays.{refused_behind, refused_first, refused_as, field_stays, shape_of_key, keys_more, key_stays, command_stays}
@@ -32,22 +33,22 @@ pub record Turn (Item : Type 0) : Type 0 where
   pub shape : (Regular → Bool) → Item → List Column → Shape
   pub shapes : (Regular → Bool) → List Item → List Column → Shape
   pub write : Writing → Item → Writing
-  pub nodes : Item → List NodeAt
-  pub takes : List NodeAt → ℕ
-  pub takes_both : (these those : List NodeAt) → takes (these ++ those) ≡ takes these + takes those
+  pub size : Item → ℕ
+  pub sizes : List Item → ℕ
+  pub sizes_more : (item : Item) (items : List Item) → sizes (item ∷ items) ≡ size item + sizes items
   pub none : (accepts : Regular → Bool) (columns : List Column) → shapes accepts [] columns ≡ Ok columns
   pub more : (accepts : Regular → Bool) (item : Item) (items : List Item) (columns : List Column) → shapes accepts (item ∷ items) columns ≡ and_then (shape accepts item columns) (shapes accepts items)
   pub stays : (item : Item) (columns : List Column) → Stays (λ accepts. shape accepts item columns)
-  pub room : (item : Item) (writing : Writing) (count : ℕ) → HasRoom writing (takes (nodes item) + count) → HasRoom (write writing item) count
+  pub room : (item : Item) (writing : Writing) (count : ℕ) → HasRoom writing (size item + count) → HasRoom (write writing item) count
 
 abbrev pub fields_turn : List ℕ → Turn Field
 fields_turn text = record {
   shape = λ accepts. shape_of_field (over text accepts);
   shapes = λ accepts. shape_of_fields (over text accepts);
   write = write_field text;
-  nodes = nodes_of_field;
-  takes = λ nodes. length nodes;
-  takes_both = λ these those. length-append these those;
+  size = λ field. length (nodes_of_field field);
+  sizes = λ fields. length (flat_map nodes_of_field fields);
+  sizes_more = λ field fields. length-append (nodes_of_field field) (flat_map nodes_of_field fields);
   none = λ accepts columns. refl;
   more = λ accepts field fields columns. refl;
   stays = field_stays text;
@@ -59,27 +60,27 @@ keys_turn = record {
   shape = λ accepts. shape_of_key (over [] accepts);
   shapes = λ accepts. shape_of_keys (over [] accepts);
   write = λ writing key. write_input writing key.expr;
-  nodes = nodes_of_key;
-  takes = λ nodes. length nodes;
-  takes_both = λ these those. length-append these those;
+  size = λ key. length (nodes_of_key key);
+  sizes = λ keys. length (flat_map nodes_of_key keys);
+  sizes_more = λ key keys. length-append (nodes_of_key key) (flat_map nodes_of_key keys);
   none = λ accepts columns. refl;
   more = λ accepts. keys_more (over [] accepts);
   stays = key_stays [];
   room = λ key. input_room key.expr;
 }
 
-abbrev pub commands_turn : List ℕ → Turn Command
-commands_turn text = record {
-  shape = λ accepts. shape_of_command (over text accepts);
-  shapes = λ accepts. shape_of_commands (over text accepts);
-  write = write_command text;
-  nodes = nodes_of_command;
-  takes = λ nodes. 2 * length nodes;
-  takes_both = λ these those. let both = length-append these those in omega (arith, both);
+abbrev pub commands_turn : List ℕ → Catalog → Turn Command
+commands_turn text catalog = record {
+  shape = λ accepts. shape_of_command (over_catalog text catalog accepts);
+  shapes = λ accepts. shape_of_commands (over_catalog text catalog accepts);
+  write = write_command text catalog.policies;
+  size = λ command. 2 * length (nodes_of_command command) + appended_by catalog.policies command.kind;
+  sizes = λ commands. 2 * length (flat_map nodes_of_command commands) + appended_in catalog.policies commands;
+  sizes_more = λ command commands. let both = length-append (nodes_of_command command) (flat_map nodes_of_command commands) in omega (arith, both);
   none = λ accepts columns. refl;
   more = λ accepts command commands columns. refl;
-  stays = command_stays text;
-  room = command_room text;
+  stays = command_stays text catalog;
+  room = command_room text catalog.policies;
 }
 
 -- where the rest of the items is left to be written
@@ -87,11 +88,11 @@ pub record Along {Item : Type 0} (turn : Turn Item) (items : List Item) (start :
   pub written : fold turn.write (seen made) rest ≡ fold turn.write (seen start) items
   pub shape : turn.shapes is_accepted rest (columns_of made.visible) ≡ turn.shapes is_accepted items (columns_of start.visible)
   pub refusal : (error : AnalyzeError) → IsRefusal (λ accepts. turn.shapes accepts rest (columns_of made.visible)) error → IsRefusal (λ accepts. turn.shapes accepts items (columns_of start.visible)) error
-  pub room : HasRoom (seen made) (turn.takes (flat_map turn.nodes rest))
+  pub room : HasRoom (seen made) (turn.sizes rest)
 
-item_room : {Item : Type 0} (turn : Turn Item) (item : Item) (rest : List Item) (writing : Writing) → HasRoom writing (turn.takes (flat_map turn.nodes (item ∷ rest)))
-    → HasRoom writing (turn.takes (turn.nodes item) + turn.takes (flat_map turn.nodes rest))
-item_room turn item rest writing room = subst (HasRoom writing) (turn.takes_both (turn.nodes item) (flat_map turn.nodes rest)) room
+item_room : {Item : Type 0} (turn : Turn Item) (item : Item) (rest : List Item) (writing : Writing) → HasRoom writing (turn.sizes (item ∷ rest))
+    → HasRoom writing (turn.size item + turn.sizes rest)
+item_room turn item rest writing room = subst (HasRoom writing) (turn.sizes_more item rest) room
 
 pub along_more : {Item : Type 0} (turn : Turn Item) (items : List Item) (start : Made) (item : Item) (rest : List Item) (made new : Made) → Along turn items start (item ∷ rest) made
     → (seen new ≡ turn.write (seen made) item) × (turn.shape is_accepted item (columns_of made.visible) ≡ Ok (columns_of new.visible)) → Along turn items start rest new
@@ -104,7 +105,7 @@ along_more turn items start item rest made new along writes =
           (refused_as (λ accepts. turn.shapes accepts (item ∷ rest) columns) (λ accepts. and_then (turn.shape accepts item columns) (turn.shapes accepts rest)) error
           (λ accepts. turn.more accepts item rest columns)
           (refused_behind (λ accepts. turn.shape accepts item columns) (λ accepts. turn.shapes accepts rest) (columns_of new.visible) error (turn.stays item columns) writes.1 refused));
-      room = subst (λ (writing : Writing). HasRoom writing (turn.takes (flat_map turn.nodes rest))) (sym writes.0) (turn.room item (seen made) _ (item_room turn item rest (seen made) along.room));
+      room = subst (λ (writing : Writing). HasRoom writing (turn.sizes rest)) (sym writes.0) (turn.room item (seen made) _ (item_room turn item rest (seen made) along.room));
     }
 
 pub along_refused : {Item : Type 0} (turn : Turn Item) (items : List Item) (start : Made) (item : Item) (rest : List Item) (made : Made) (error : AnalyzeError) → Along turn items start (item ∷ rest) made

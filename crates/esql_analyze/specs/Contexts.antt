@@ -1,4 +1,4 @@
--- What commands are judged by, which do not look at the catalog.
+-- What a query is judged by, and what its fields are judged by, which do not look at the catalog.
 use Rattle.std.specs.Prelude.{ℕ, Bool, List, []}
 use Rattle.esql_plan.specs.declared.catalog.Catalog.{Catalog}
 use Rattle.row_semantics.specs.Regulars.{Regular}

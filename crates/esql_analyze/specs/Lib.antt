@@ -9,3 +9,5 @@ pub mod Parts
 pub mod StatsRules
 pub mod StatsSeen
 pub mod Behind
+pub mod Policies
+pub mod NewColumns

@@ -28,6 +28,7 @@ pub record IsWritten (written : Written) (analyzed : Analyzed) : Type 0 where
   pub plan : analyzed.plan ≡ written.plan
   pub whole : analyzed.patterns.whole ≡ written.whole
   pub free : analyzed.patterns.free ≡ written.free
+  pub cutters : analyzed.cutters ≡ written.cutters
 
 -- the source of the plan is the one that is meant, and its columns are written as they are to be
 abbrev pub Begins : ((Regular → Bool) → Shape) → PlanSource → Writing → Result Begun AnalyzeError → Type 0

@@ -1,6 +1,7 @@
 -- The regular expressions of a query, in the order in which they are written.
-use Rattle.std.specs.Prelude.{List, [], ◌++◌, Option, Some, None}
+use Rattle.std.specs.Prelude.{List, [], ◌∷◌, ◌++◌, Option, Some, None}
 use Rattle.std.specs.List.{flat_map}
+use Rattle.esql_types.specs.declared.places.Span.{Span}
 use Rattle.esql_ast.specs.declared.query.Condition.{Condition}
 use Rattle.esql_ast.specs.declared.query.Field.{Field}
 use Rattle.esql_ast.specs.declared.query.StatsField.{StatsField}
@@ -11,7 +12,9 @@ use Rattle.esql_ast.specs.declared.query.CommandKind.{CommandKind}
 use Rattle.esql_ast.specs.declared.query.CommandKind.TheVariants.{Filter, Eval, Keep, Drop, Rename, Sort, Limit, Expand, Stats, Dissect, Grok, Enrich, Join}
 use Rattle.esql_ast.specs.declared.query.SourceCommand.{SourceCommand}
 use Rattle.esql_ast.specs.declared.query.SourceCommand.TheVariants.{Tables, OneRow}
+use Rattle.dissect_grok.specs.Groks.{GrokRead, grok_of}
 use Rattle.row_semantics.specs.Regulars.{Regular}
+use Rattle.query_semantics.specs.AppendedShapes.{regular_of_grok}
 use Rattle.expression_analysis.specs.Answers.{regulars_of_expr}
 
 abbrev pub regulars_of_field : Field → List Regular
@@ -27,6 +30,11 @@ regulars_of_stats stats = regulars_of_field stats.field ++ regulars_of_condition
 abbrev pub regulars_of_key : SortKey → List Regular
 regulars_of_key key = regulars_of_expr key.expr
 
+-- the regular expression that a pattern of GROK stands for
+abbrev pub regulars_of_grok : Span → Option GrokRead → List Regular
+regulars_of_grok span None = []
+regulars_of_grok span (Some read) = regular_of_grok span read ∷ []
+
 abbrev pub regulars_of_kind : CommandKind → List Regular
 regulars_of_kind (Filter condition) = regulars_of_expr condition
 regulars_of_kind (Eval fields) = flat_map regulars_of_field fields
@@ -38,7 +46,7 @@ regulars_of_kind (Limit count) = []
 regulars_of_kind (Expand column) = []
 regulars_of_kind (Stats fields groups) = flat_map regulars_of_stats fields ++ flat_map regulars_of_field groups
 regulars_of_kind (Dissect input pattern separator) = regulars_of_expr input
-regulars_of_kind (Grok input pattern) = regulars_of_expr input
+regulars_of_kind (Grok input pattern) = regulars_of_expr input ++ regulars_of_grok pattern.span (grok_of pattern.text)
 regulars_of_kind (Enrich policy on fields) = []
 regulars_of_kind (Join table on) = []
 

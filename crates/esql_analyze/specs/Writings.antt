@@ -9,14 +9,15 @@ use Rattle.esql_analyze.specs.declared.writing.Writing.{Writing as Made}
 use Rattle.esql_analyze.specs.declared.columns.Shown.{Shown}
 
 abbrev pub seen : Made → Writing
-seen made = record { visible = made.visible; next = made.next; whole = made.patterns.whole; free = made.patterns.free; steps = made.steps }
+seen made = record { visible = made.visible; next = made.next; whole = made.patterns.whole; free = made.patterns.free; cutters = made.cutters; steps = made.steps }
 
--- there is room for as many more columns, seen or not, and for as many more patterns of each kind
+-- there is room for as many more columns, seen or not, and for as many more patterns of each kind and cutters
 pub record HasRoom (writing : Writing) (more : ℕ) : Type 0 where
   pub shown : length writing.visible + more ≤ 4294967295
   pub columns : writing.next + more ≤ 4294967295
   pub whole : length writing.whole + more ≤ 4294967295
   pub free : length writing.free + more ≤ 4294967295
+  pub cutters : length writing.cutters + more ≤ 4294967295
 
 -- a column that can be seen, without its name
 abbrev pub shown_of : OutColumn → Shown

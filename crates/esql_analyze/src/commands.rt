@@ -1,16 +1,20 @@
-ghost use Rattle.std.specs.Prelude.{◌≡◌, ◌*◌, true, All, fold, length};
+ghost use Rattle.std.specs.Prelude.{◌≡◌, ◌+◌, ◌*◌, true, All, fold, length};
 ghost use Rattle.std.specs.List.{flat_map};
 ghost use Rattle.esql_ast.specs.Fits.{KindFits};
 ghost use Rattle.esql_ast.specs.Nodes.{nodes_of_command};
 ghost use Rattle.plan_semantics.specs.Plans.{columns_of};
 ghost use Rattle.query_semantics.specs.Built.{is_built_kind};
+ghost use Rattle.query_semantics.specs.Catalogs.{IsCatalog};
+ghost use Rattle.query_semantics.specs.Sizes.{appended_by, appended_in};
 ghost use Rattle.query_semantics.specs.Shapes.{shape_of_kind, shape_of_command, shape_of_commands};
 ghost use Rattle.query_semantics.specs.Written.{write_kind, write_command};
-ghost use Rattle.esql_analyze.specs.Contexts.{over};
+ghost use Rattle.esql_analyze.specs.Contexts.{over_catalog};
 ghost use Rattle.esql_analyze.specs.Writings.{seen, HasRoom};
 ghost use Rattle.esql_analyze.specs.Answers.{Writes, Hears};
 ghost use Rattle.esql_analyze.specs.Regulars.{regulars_of_kind, regulars_of_command};
 
+use crate::cuts::{write_dissect, write_grok};
+use crate::enrich::write_enrich;
 use crate::expand::write_expand;
 use crate::fields::{write_condition, write_fields};
 use crate::names::{write_drop, write_keep, write_rename};
@@ -18,6 +22,7 @@ use crate::sort::write_sort;
 use crate::stats::write_stats;
 use crate::writing::{Writing, unless_empty, write_limit};
 use esql_ast::{Command, CommandKind};
+use esql_plan::Catalog;
 use esql_types::Maker;
 use expression_analysis::AnalyzeError;
 use std::alloc::Global;
@@ -25,14 +30,16 @@ use std::alloc::Global;
 fn write_kind<M: Maker>(
     alloc: Global,
     text: &str,
+    catalog: &Catalog,
     writing: Writing,
     command: &Command,
     maker: &mut M,
 ) -> Result<Writing, AnalyzeError>
+    requires catalog { IsCatalog catalog.now }
     requires fits { KindFits text.now command.now.kind }
     requires built { is_built_kind command.now.kind ≡ true }
-    requires room { HasRoom (seen writing) (2 * length (nodes_of_command command.now)) }
-    ensures writes { Writes (λ accepts. shape_of_kind (over text.now accepts) command.now.kind (columns_of writing.visible)) (write_kind text.now command.now.node command.now.kind (seen writing)) result }
+    requires room { HasRoom (seen writing) (2 * length (nodes_of_command command.now) + appended_by catalog.now.policies command.now.kind) }
+    ensures writes { Writes (λ accepts. shape_of_kind (over_catalog text.now catalog.now accepts) command.now.kind (columns_of writing.visible)) (write_kind text.now catalog.now.policies command.now.node command.now.kind (seen writing)) result }
     ensures hears { Hears M.refused M.last (regulars_of_kind command.now.kind) maker.old maker.new result }
 {
     match &command.kind {
@@ -52,7 +59,26 @@ fn write_kind<M: Maker>(
             let groups = groups.as_slice();
             write_stats(alloc, text, writing, fields.as_slice(), groups, maker)
         }
-        _ => unreachable!(),
+        CommandKind::Dissect {
+            input,
+            pattern,
+            separator,
+        } => write_dissect(
+            alloc,
+            writing,
+            command.node,
+            input,
+            pattern,
+            separator,
+            maker,
+        ),
+        CommandKind::Grok { input, pattern } => {
+            write_grok(alloc, writing, command.node, input, pattern, maker)
+        }
+        CommandKind::Enrich { policy, on, fields } => {
+            write_enrich(alloc, catalog, writing, policy, on, fields)
+        }
+        CommandKind::Join { .. } => unreachable!(),
     }
 }
 
@@ -60,17 +86,19 @@ fn write_kind<M: Maker>(
 fn write_command<M: Maker>(
     alloc: Global,
     text: &str,
+    catalog: &Catalog,
     writing: Writing,
     command: &Command,
     maker: &mut M,
 ) -> Result<Writing, AnalyzeError>
+    requires catalog { IsCatalog catalog.now }
     requires fits { KindFits text.now command.now.kind }
     requires built { is_built_kind command.now.kind ≡ true }
-    requires room { HasRoom (seen writing) (2 * length (nodes_of_command command.now)) }
-    ensures writes { Writes (λ accepts. shape_of_command (over text.now accepts) command.now (columns_of writing.visible)) (write_command text.now (seen writing) command.now) result }
+    requires room { HasRoom (seen writing) (2 * length (nodes_of_command command.now) + appended_by catalog.now.policies command.now.kind) }
+    ensures writes { Writes (λ accepts. shape_of_command (over_catalog text.now catalog.now accepts) command.now (columns_of writing.visible)) (write_command text.now catalog.now.policies (seen writing) command.now) result }
     ensures hears { Hears M.refused M.last (regulars_of_command command.now) maker.old maker.new result }
 {
-    let writing = write_kind(alloc, text, writing, command, maker)?;
+    let writing = write_kind(alloc, text, catalog, writing, command, maker)?;
     unless_empty(command.span, writing)
 }
 
@@ -78,19 +106,21 @@ fn write_command<M: Maker>(
 pub(crate) fn write_commands<M: Maker>(
     alloc: Global,
     text: &str,
+    catalog: &Catalog,
     writing: Writing,
     commands: &[Command],
     maker: &mut M,
 ) -> Result<Writing, AnalyzeError>
+    requires catalog { IsCatalog catalog.now }
     requires fits { All (λ command. KindFits text.now command.kind) commands.now }
     requires built { All (λ command. is_built_kind command.kind ≡ true) commands.now }
-    requires room { HasRoom (seen writing) (2 * length (flat_map nodes_of_command commands.now)) }
-    ensures writes { Writes (λ accepts. shape_of_commands (over text.now accepts) commands.now (columns_of writing.visible)) (fold (write_command text.now) (seen writing) commands.now) result }
+    requires room { HasRoom (seen writing) (2 * length (flat_map nodes_of_command commands.now) + appended_in catalog.now.policies commands.now) }
+    ensures writes { Writes (λ accepts. shape_of_commands (over_catalog text.now catalog.now accepts) commands.now (columns_of writing.visible)) (fold (write_command text.now catalog.now.policies) (seen writing) commands.now) result }
     ensures hears { Hears M.refused M.last (flat_map regulars_of_command commands.now) maker.old maker.new result }
 {
     let mut writing = writing;
     for command in commands {
-        writing = write_command(alloc, text, writing, command, maker)?;
+        writing = write_command(alloc, text, catalog, writing, command, maker)?;
     }
     Ok(writing)
 }

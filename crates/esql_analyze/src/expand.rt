@@ -70,6 +70,7 @@ pub(crate) fn write_expand(
         visible,
         next,
         patterns,
+        cutters,
         steps,
     } = writing;
     let id = match number_of(visible.as_slice(), &column.name) {
@@ -91,6 +92,7 @@ pub(crate) fn write_expand(
         visible,
         next: next + 1,
         patterns,
+        cutters,
         steps,
     })
 }

@@ -63,12 +63,14 @@ fn add_field(
     ensures visible { IfOk result (λ new. new.visible ≡ put_visible writing.visible (name_of_field text.now field.now) typed.kind writing.next) }
     ensures next { IfOk result (λ new. new.next ≡ writing.next + 1) }
     ensures patterns { IfOk result (λ new. new.patterns ≡ writing.patterns) }
+    ensures cutters { IfOk result (λ new. new.cutters ≡ writing.cutters) }
     ensures steps { IfOk result (λ new. new.steps ≡ writing.steps ++ Eval (column_at writing.next) typed ∷ []) }
 {
     let Writing {
         visible,
         next,
         patterns,
+        cutters,
         steps,
     } = writing;
     let name = name_of_field(alloc, text, field)?;
@@ -82,6 +84,7 @@ fn add_field(
         visible,
         next: next + 1,
         patterns,
+        cutters,
         steps,
     })
 }
@@ -103,6 +106,7 @@ pub(crate) fn write_field<M: Maker>(
         visible,
         next,
         patterns,
+        cutters,
         steps,
     } = writing;
     let mut patterns = patterns;
@@ -111,6 +115,7 @@ pub(crate) fn write_field<M: Maker>(
         visible,
         next,
         patterns,
+        cutters,
         steps,
     };
     match add_field(alloc, text, writing, field, typed) {
@@ -162,6 +167,7 @@ pub(crate) fn write_condition<M: Maker>(
         visible,
         next,
         patterns,
+        cutters,
         steps,
     } = writing;
     let mut patterns = patterns;
@@ -181,6 +187,7 @@ pub(crate) fn write_condition<M: Maker>(
         visible,
         next,
         patterns,
+        cutters,
         steps,
     })
 }

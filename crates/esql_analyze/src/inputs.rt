@@ -41,12 +41,14 @@ pub(crate) fn make_input(writing: Writing, typed: TypedExpr) -> Result<Input, Al
     ensures visible { IfOk result (λ input. input.writing.visible ≡ writing.visible) }
     ensures next { IfOk result (λ input. input.writing.next ≡ writing.next + 1) }
     ensures patterns { IfOk result (λ input. input.writing.patterns ≡ writing.patterns) }
+    ensures cutters { IfOk result (λ input. input.writing.cutters ≡ writing.cutters) }
     ensures steps { IfOk result (λ input. input.writing.steps ≡ writing.steps ++ Eval (column_at writing.next) typed ∷ []) }
 {
     let Writing {
         visible,
         next,
         patterns,
+        cutters,
         steps,
     } = writing;
     let kind = typed.kind;
@@ -62,6 +64,7 @@ pub(crate) fn make_input(writing: Writing, typed: TypedExpr) -> Result<Input, Al
             visible,
             next: next + 1,
             patterns,
+            cutters,
             steps,
         },
     })
@@ -86,6 +89,7 @@ pub(crate) fn write_input<M: Maker>(
         visible,
         next,
         patterns,
+        cutters,
         steps,
     } = writing;
     let mut patterns = patterns;
@@ -94,6 +98,7 @@ pub(crate) fn write_input<M: Maker>(
         visible,
         next,
         patterns,
+        cutters,
         steps,
     };
     match column_of(&typed) {

@@ -1,16 +1,20 @@
 //! A query is judged and written as a plan in one pass: names become numbers, and regular expressions are built.
 //!
 //! Read its specs in this order: `Contexts`, `Writings`, `Answers`, `Names`, `Regulars`, `Plans`; those of STATS: `Parts`, `CallsSeen`,
-//! `StatsRules`, `StatsSeen`, `Behind`.
+//! `StatsRules`, `StatsSeen`, `Behind`; those of DISSECT, GROK and ENRICH: `NewColumns`, `Policies`.
 #![tactic(auto)]
 
+mod appended;
 mod calls;
 mod columns;
 mod commands;
+mod cuts;
+mod enrich;
 mod expand;
 mod fields;
 mod inputs;
 mod names;
+mod policy_fields;
 mod query;
 mod sort;
 mod source;

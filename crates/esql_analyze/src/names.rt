@@ -61,6 +61,7 @@ pub(crate) fn write_keep(
         visible,
         next,
         patterns: read,
+        cutters,
         steps,
     } = writing;
     let apart = names_apart(alloc, visible)?;
@@ -73,6 +74,7 @@ pub(crate) fn write_keep(
         visible,
         next,
         patterns: read,
+        cutters,
         steps,
     })
 }
@@ -90,6 +92,7 @@ pub(crate) fn write_drop(
         visible,
         next,
         patterns: read,
+        cutters,
         steps,
     } = writing;
     let apart = names_apart(alloc, visible)?;
@@ -102,6 +105,7 @@ pub(crate) fn write_drop(
         visible,
         next,
         patterns: read,
+        cutters,
         steps,
     })
 }
@@ -119,6 +123,7 @@ pub(crate) fn write_rename(
         visible,
         next,
         patterns,
+        cutters,
         steps,
     } = writing;
     let apart = names_apart(alloc, visible)?;
@@ -131,6 +136,7 @@ pub(crate) fn write_rename(
         visible,
         next,
         patterns,
+        cutters,
         steps,
     })
 }

@@ -6,6 +6,7 @@ ghost use Rattle.plan_semantics.specs.Plans.{columns_of};
 ghost use Rattle.query_semantics.specs.Built.{IsBuiltQuery};
 ghost use Rattle.query_semantics.specs.Catalogs.{IsCatalog};
 ghost use Rattle.query_semantics.specs.Cuts.{is_limit, last_count};
+ghost use Rattle.query_semantics.specs.Sizes.{appended_in};
 ghost use Rattle.query_semantics.specs.Shapes.{shape_of, shape_in};
 ghost use Rattle.query_semantics.specs.Written.{written_of, source_in_plan, writing_of};
 ghost use Rattle.expression_analysis.specs.Answers.{IsRefusal, IsTold, IsQuiet};
@@ -17,18 +18,20 @@ ghost use Rattle.esql_analyze.specs.Answers.{Hears};
 use crate::commands::write_commands;
 use crate::source::{Begun, write_source};
 use crate::writing::{Writing, write_limit};
+use dissect_grok::Cutter;
 use esql_ast::{Command, CommandKind, Query};
 use esql_plan::{Catalog, Plan};
-use esql_types::Maker;
+use esql_types::{Maker, Seq};
 use expression_analysis::AnalyzeError;
 use std::alloc::Global;
 use text_match::Patterns;
 
-/// A plan, and the regular expressions that it reads.
+/// A plan, and the regular expressions and the cutters that it reads.
 #[derive(Drop)]
 pub struct Analyzed {
     pub plan: Plan,
     pub patterns: Patterns,
+    pub cutters: Seq<Cutter>,
 }
 
 fn is_limit(command: &Command) -> bool
@@ -65,6 +68,7 @@ fn write_query<M: Maker>(
     requires fits { QueryFits text.now query.now }
     requires numbered { IsNumbered query.now }
     requires few { query.now.nodes ≤ 65537 }
+    requires appended { appended_in catalog.now.policies query.now.commands ≤ 80000000 }
     requires catalog { IsCatalog catalog.now }
     requires built { IsBuiltQuery query.now }
     ensures begins { Begins (λ accepts. shape_in (over_catalog text.now catalog.now accepts) query.now) (source_in_plan catalog.now query.now.source) (writing_of text.now catalog.now query.now) result }
@@ -72,7 +76,7 @@ fn write_query<M: Maker>(
 {
     let begun = write_source(alloc, text, &query.source, catalog, maker)?;
     let commands = query.commands.as_slice();
-    let writing = write_commands(alloc, text, begun.writing, commands, maker)?;
+    let writing = write_commands(alloc, text, catalog, begun.writing, commands, maker)?;
     let writing = write_limit(last_count(query), writing)?;
     Ok(Begun {
         source: begun.source,
@@ -94,6 +98,7 @@ pub fn analyze<M: Maker>(
     requires fits { QueryFits text.now query.now }
     requires numbered { IsNumbered query.now }
     requires few { query.now.nodes ≤ 65537 }
+    requires appended { appended_in catalog.now.policies query.now.commands ≤ 80000000 }
     requires catalog { IsCatalog catalog.now }
     requires built { IsBuiltQuery query.now }
     ensures written { IfOk result (IsWritten (written_of text.now catalog.now query.now)) }
@@ -108,6 +113,7 @@ pub fn analyze<M: Maker>(
         visible,
         next,
         patterns,
+        cutters,
         steps,
     } = writing;
     let plan = Plan {
@@ -117,5 +123,9 @@ pub fn analyze<M: Maker>(
         columns: next,
         nodes: query.nodes,
     };
-    Ok(Analyzed { plan, patterns })
+    Ok(Analyzed {
+        plan,
+        patterns,
+        cutters,
+    })
 }

@@ -118,6 +118,7 @@ fn write_grouping(
         visible,
         next,
         patterns,
+        cutters,
         steps,
     } = writing;
     let mut steps = steps;
@@ -138,6 +139,7 @@ fn write_grouping(
             visible: Seq::new(alloc),
             next: next + (count + width),
             patterns,
+            cutters,
             steps,
         },
     })
@@ -183,6 +185,7 @@ fn type_field<M: Maker>(
         visible,
         next,
         patterns,
+        cutters,
         steps,
     } = writing;
     let mut patterns = patterns;
@@ -191,6 +194,7 @@ fn type_field<M: Maker>(
         visible,
         next,
         patterns,
+        cutters,
         steps,
     };
     Ok(InPlan { typed, writing })
@@ -254,6 +258,7 @@ fn add_field(
         visible,
         next,
         patterns,
+        cutters,
         steps,
     } = input.writing;
     let visible = put_visible(visible, name, input.kind, input.id.0)?;
@@ -261,6 +266,7 @@ fn add_field(
         visible,
         next,
         patterns,
+        cutters,
         steps,
     })
 }
@@ -380,6 +386,7 @@ fn write_behind<M: Maker>(
         visible,
         next,
         patterns,
+        cutters,
         steps,
     } = writing;
     let visible = put_groups(
@@ -394,6 +401,7 @@ fn write_behind<M: Maker>(
         visible,
         next,
         patterns,
+        cutters,
         steps,
     })
 }

@@ -103,6 +103,7 @@ fn type_expr<M: Maker>(
         visible,
         next,
         patterns,
+        cutters,
         steps,
     } = writing;
     let mut patterns = patterns;
@@ -111,6 +112,7 @@ fn type_expr<M: Maker>(
         visible,
         next,
         patterns,
+        cutters,
         steps,
     };
     Ok(InPlan { typed, writing })

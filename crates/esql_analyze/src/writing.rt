@@ -5,6 +5,7 @@ ghost use Rattle.query_semantics.specs.Written.{write_limit};
 ghost use Rattle.esql_analyze.specs.Writings.{seen};
 ghost use Rattle.esql_analyze.specs.Answers.{Writes};
 
+use dissect_grok::Cutter;
 use esql_plan::{OutColumn, Step};
 use esql_types::{Seq, Span};
 use expression_analysis::AnalyzeError;
@@ -18,12 +19,13 @@ pub(crate) struct Writing {
     pub(crate) visible: Seq<OutColumn>,
     pub(crate) next: u32,
     pub(crate) patterns: Patterns,
+    pub(crate) cutters: Seq<Cutter>,
     pub(crate) steps: Seq<Step>,
 }
 
 /// A plan before its first step, over columns that are read.
 pub(crate) fn begin(alloc: Global, visible: Seq<OutColumn>, next: u32) -> Writing
-    ensures { seen result ≡ record { visible = visible; next = next; whole = []; free = []; steps = [] } }
+    ensures { seen result ≡ record { visible = visible; next = next; whole = []; free = []; cutters = []; steps = [] } }
 {
     Writing {
         visible,
@@ -32,6 +34,7 @@ pub(crate) fn begin(alloc: Global, visible: Seq<OutColumn>, next: u32) -> Writin
             whole: Seq::new(alloc),
             free: Seq::new(alloc),
         },
+        cutters: Seq::new(alloc),
         steps: Seq::new(alloc),
     }
 }

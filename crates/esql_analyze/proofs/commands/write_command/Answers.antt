@@ -7,7 +7,7 @@ use Rattle.esql_analyze.proofs.commands.write_command.Goals as goal
 
 pub returns-clause-writes : goal.returns-clause-writes
 returns-clause-writes g c =
-    command_writes c.args.text.now c.args.command.now c.args.writing c.in_ok-writing.writing c.unless_empty.result c.in_ok-writing.ensures.writes c.unless_empty.ensures
+    command_writes c.args.text.now c.args.catalog.now c.args.command.now c.args.writing c.in_ok-writing.writing c.unless_empty.result c.in_ok-writing.ensures.writes c.unless_empty.ensures
 
 pub returns-clause-hears : goal.returns-clause-hears
 returns-clause-hears g c =

@@ -14,6 +14,6 @@ pub returns : goal.returns
 returns c =
     let column = c.args.column.now in
     let old = c.args.writing in
-    expand_writes column old (record { visible = c.in_ok-visible.visible; next = old.next + 1; patterns = old.patterns; steps = c.push.new.self }) c.in-Some.id
+    expand_writes column old (record { visible = c.in_ok-visible.visible; next = old.next + 1; patterns = old.patterns; cutters = old.cutters; steps = c.push.new.self }) c.in-Some.id
     (ap (λ (columns : List OutColumn). option_map id_of (visible_named columns column.name)) (sym c.as_slice.ensures) ∙ sym c.in-Some.ensures)
-    c.in_ok-visible.ensures refl refl c.in_ok-push.ensures.ok
+    c.in_ok-visible.ensures refl refl refl c.in_ok-push.ensures.ok

@@ -24,4 +24,4 @@ returns-in-Ok-clause-writes g c =
     c.in-Ok.ensures.visible c.in-Ok.ensures.next
     (ap (λ (these : Patterns). these.whole) c.in-Ok.ensures.patterns ∙ c.in_ok-typed.ensures.read.0)
     (ap (λ (these : Patterns). these.free) c.in-Ok.ensures.patterns ∙ c.in_ok-typed.ensures.read.1)
-    c.in-Ok.ensures.steps
+    c.in-Ok.ensures.cutters c.in-Ok.ensures.steps

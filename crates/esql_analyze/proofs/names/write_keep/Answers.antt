@@ -18,6 +18,6 @@ pub returns : goal.returns
 returns c =
     let old = c.args.writing in
     let apart = c.in_ok-apart.apart in
-    kept_writes c.args.patterns.now old (record { visible = c.in_ok-visible.visible; next = old.next; patterns = old.patterns; steps = old.steps }) apart c.in-Ok.places
+    kept_writes c.args.patterns.now old (record { visible = c.in_ok-visible.visible; next = old.next; patterns = old.patterns; cutters = old.cutters; steps = old.steps }) apart c.in-Ok.places
     c.in_ok-apart.ensures.names c.in_ok-apart.ensures.shown c.in-Ok.ensures.0 c.in-Ok.ensures.1
-    (c.in_ok-visible.ensures ∙ ap (λ (places : List ℕ). at_places places (joined apart.names apart.shown)) c.as_slice.ensures) refl refl refl
+    (c.in_ok-visible.ensures ∙ ap (λ (places : List ℕ). at_places places (joined apart.names apart.shown)) c.as_slice.ensures) refl refl refl refl

@@ -16,5 +16,5 @@ returns-in-Err c =
 pub returns : goal.returns
 returns c =
     let old = c.args.writing in
-    renamed_writes c.args.pairs.now old (record { visible = c.in_ok-visible.visible; next = old.next; patterns = old.patterns; steps = old.steps }) c.in_ok-apart.apart c.in-Ok.renamed
-    c.in_ok-apart.ensures.names c.in_ok-apart.ensures.shown c.in-Ok.ensures.0 c.in-Ok.ensures.1 c.in_ok-visible.ensures refl refl refl
+    renamed_writes c.args.pairs.now old (record { visible = c.in_ok-visible.visible; next = old.next; patterns = old.patterns; cutters = old.cutters; steps = old.steps }) c.in_ok-apart.apart c.in-Ok.renamed
+    c.in_ok-apart.ensures.names c.in_ok-apart.ensures.shown c.in-Ok.ensures.0 c.in-Ok.ensures.1 c.in_ok-visible.ensures refl refl refl refl

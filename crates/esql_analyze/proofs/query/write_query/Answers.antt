@@ -1,8 +1,9 @@
-use Rattle.std.proofs.Common.{◌*◌, List, length, Result, refl, sym, subst, arith}
+use Rattle.std.proofs.Common.{◌+◌, ◌*◌, List, length, Result, refl, sym, subst, arith}
 use Rattle.std.specs.List.{flat_map}
 use Rattle.esql_ast.specs.declared.query.Command.{Command}
 use Rattle.esql_ast.specs.Nodes.{nodes_of_command}
 use Rattle.plan_semantics.specs.Plans.{columns_of}
+use Rattle.query_semantics.specs.Sizes.{appended_in}
 use Rattle.query_semantics.specs.Shapes.{shape_of_commands, shape_in}
 use Rattle.query_semantics.specs.Writings.{Writing}
 use Rattle.query_semantics.specs.Written.{source_in_plan, writing_of}
@@ -10,7 +11,7 @@ use Rattle.expression_analysis.specs.declared.error.AnalyzeError.{AnalyzeError}
 use Rattle.expression_analysis.specs.Answers.{IsRefusal}
 use Rattle.esql_analyze.specs.declared.source.Begun.{Begun}
 use Rattle.esql_analyze.specs.Answers.{IsHeard, Hears}
-use Rattle.esql_analyze.specs.Contexts.{over, over_catalog}
+use Rattle.esql_analyze.specs.Contexts.{over_catalog}
 use Rattle.esql_analyze.specs.Plans.{Begins}
 use Rattle.esql_analyze.specs.Regulars.{regulars_of_source, regulars_of_command, regulars_of_query}
 use Rattle.esql_analyze.specs.Writings.{seen, HasRoom}
@@ -37,10 +38,11 @@ pub write_commands-requires-clause-room : goal.write_commands-requires-clause-ro
 write_commands-requires-clause-room g c =
     let query = c.args.query.now in
     let begun = c.in_ok-begun.begun in
-    let nodes = 2 * length (flat_map nodes_of_command query.commands) in
-    subst (λ (commands : List Command). HasRoom (seen begun.writing) (2 * length (flat_map nodes_of_command commands))) (sym c.as_slice-commands.ensures)
-    (subst (λ (writing : Writing). HasRoom writing nodes) (sym c.in_ok-begun.ensures.begins.1.0)
-    (source_room c.args.text.now c.args.catalog.now query.source nodes c.requires.catalog (omega (arith, as_many_nodes query c.requires.numbered, c.requires.few))))
+    let policies = c.args.catalog.now.policies in
+    let items = 2 * length (flat_map nodes_of_command query.commands) + appended_in policies query.commands in
+    subst (λ (commands : List Command). HasRoom (seen begun.writing) (2 * length (flat_map nodes_of_command commands) + appended_in policies commands)) (sym c.as_slice-commands.ensures)
+    (subst (λ (writing : Writing). HasRoom writing items) (sym c.in_ok-begun.ensures.begins.1.0)
+    (source_room c.args.text.now c.args.catalog.now query.source items c.requires.catalog (omega (arith, as_many_nodes query c.requires.numbered, c.requires.few, c.requires.appended))))
 
 pub returns-in_err-writing-clause-begins : goal.returns-in_err-writing-clause-begins
 returns-in_err-writing-clause-begins g c =
@@ -49,7 +51,7 @@ returns-in_err-writing-clause-begins g c =
     let query = c.args.query.now in
     let begun = c.in_ok-begun.begun in
     let error = c.in_err-writing.field-0.0 in
-    let refused = subst (λ (commands : List Command). IsRefusal (λ accepts. shape_of_commands (over text accepts) commands (columns_of begun.writing.visible)) error) c.as_slice-commands.ensures c.in_err-writing.ensures.writes in
+    let refused = subst (λ (commands : List Command). IsRefusal (λ accepts. shape_of_commands (over_catalog text catalog accepts) commands (columns_of begun.writing.visible)) error) c.as_slice-commands.ensures c.in_err-writing.ensures.writes in
     subst (λ (result : Result Begun AnalyzeError). Begins (λ accepts. shape_in (over_catalog text catalog accepts) query) (source_in_plan catalog query.source) (writing_of text catalog query) result)
     (sym (err_is c.from_residual-in_err-writing.result error c.from_residual-in_err-writing.ensures.1))
     (commands_refused text catalog query begun.writing error c.in_ok-begun.ensures.begins.1.1 refused)

@@ -68,5 +68,5 @@ returns-clause-writes g c =
     let none = drop_all c.loop-key.key-index keys (omega (arith, c.loop-key-test.false)) in
     let along = subst (λ (rest : List SortKey). Along keys_turn keys start rest made) none c.loop-key.invariant.along in
     let are = subst (λ (rest : List SortKey). c.loop-key.plan_keys ++ keys_in_plan rest (seen made) ≡ keys_in_plan keys (seen start)) none c.loop-key.invariant.in_plan in
-    sort_writes keys start made (record { visible = made.visible; next = made.next; patterns = made.patterns; steps = c.push-2.new.self }) c.loop-key.plan_keys along are
-    refl refl refl c.in_ok-push-2.ensures.ok
+    sort_writes keys start made (record { visible = made.visible; next = made.next; patterns = made.patterns; cutters = made.cutters; steps = c.push-2.new.self }) c.loop-key.plan_keys along are
+    refl refl refl refl c.in_ok-push-2.ensures.ok

@@ -14,4 +14,4 @@ returns-clause-written c =
     let width : c.len-width.result ≡ length (groups_seen groups) = c.len-width.ensures ∙ sym (length-map groups group_in) in
     let columns = c.in_ok-columns.ensures ∙ (λ i. groups_from (old.next + count i) (groups_seen (c.as_slice.ensures i))) in
     let steps = c.in_ok-push.ensures.ok ∙ (λ i. old.steps ++ step.Stats (c.in_ok-aggregates.ensures i) (columns i) ∷ []) in
-    λ i. record { visible = c.new.ensures i; next = old.next + (count i + width i); whole = old.patterns.whole; free = old.patterns.free; steps = steps i }
+    λ i. record { visible = c.new.ensures i; next = old.next + (count i + width i); whole = old.patterns.whole; free = old.patterns.free; cutters = old.cutters; steps = steps i }

@@ -24,5 +24,5 @@ returns-clause-written g c =
     let condition = c.args.condition.now in
     let ensures = c.in_ok-input.ensures in
     let is = c.in_ok-typed.ensures ∙ (λ i. typed_apply condition.node function.Case (c.in_ok-made.ensures.typed i ∷ c.constant_true.ensures i ∷ []) None) in
-    typed_written condition.expr old c.in_ok-made.made.writing c.in_ok-input.input.writing c.in_ok-typed.typed c.in_ok-made.ensures.seen ensures.visible ensures.next ensures.patterns ensures.steps
+    typed_written condition.expr old c.in_ok-made.made.writing c.in_ok-input.input.writing c.in_ok-typed.typed c.in_ok-made.ensures.seen ensures.visible ensures.next ensures.patterns ensures.cutters ensures.steps
     ∙ ap (write_typed (seen old) condition.expr) is

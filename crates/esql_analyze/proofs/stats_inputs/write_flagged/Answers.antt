@@ -25,5 +25,5 @@ returns-clause-written g c =
     let argument = c.args.argument.now in
     let ensures = c.in_ok-make_input.ensures in
     let is = c.in_ok-typed.ensures ∙ (λ i. typed_apply flag.node function.Case (c.read_flag.ensures i ∷ c.in_ok-made.ensures.typed i ∷ []) None) in
-    typed_written argument old c.in_ok-made.made.writing c.in_ok-make_input.field-0.writing c.in_ok-typed.typed c.in_ok-made.ensures.seen ensures.visible ensures.next ensures.patterns ensures.steps
+    typed_written argument old c.in_ok-made.made.writing c.in_ok-make_input.field-0.writing c.in_ok-typed.typed c.in_ok-made.ensures.seen ensures.visible ensures.next ensures.patterns ensures.cutters ensures.steps
     ∙ ap (write_typed (seen old) argument) is
