@@ -6,3 +6,6 @@ pub mod Scans
 pub mod Turns
 pub mod Backward
 pub mod ListTurns
+pub mod JoinedTurns
+pub mod MatchRows
+pub mod CutRuns

@@ -46,7 +46,7 @@ module _ (whole : List (List Value)) (name : List ℕ) where
     chosen true later = at_first place (cell ∷ cells) stand
     chosen false later = later
 
-  cell_in-named : (columns : List Column) → cell_in whole (place_from columns 0 name) ≡ cell_named columns whole name
+  pub cell_in-named : (columns : List Column) → cell_in whole (place_from columns 0 name) ≡ cell_named columns whole name
   cell_in-named columns = named_from columns 0 whole (λ k. ap (λ n. get_or whole n []) (zero-add k))
 
 abbrev pub IsScannedBelow : ℕ → ScanColumn → Type 0

@@ -1,10 +1,10 @@
 -- The rows of groups as they are kept are those of numbered columns.
-use Rattle.std.proofs.Common.{◌≡◌, ℕ, ◌+◌, ◌<◌, ◌≤◌, ◌==◌, Bool, true, false, List, [], ◌∷◌, ◌++◌, length, get_or, set, take, replicate, map, All, refl, ap, sym, subst, ◌∙◌, arith}
+use Rattle.std.proofs.Common.{◌≡◌, ℕ, ◌<◌, ◌≤◌, ◌==◌, Bool, true, false, List, [], ◌∷◌, ◌++◌, length, set, replicate, map, All, append_assoc, refl, ap, sym, subst, ◌∙◌, arith}
 use Rattle.std.specs.Prelude.{◌||◌, Option, Some, None, if◌then◌else◌}
 use Rattle.std.specs.Option.{option_map}
-use Rattle.std.specs.List.{AllByRecursion, IsDistinct, list_any}
+use Rattle.std.specs.List.{AllByRecursion, list_any}
 use Rattle.std.proofs.lemmas.Bool.Decides.{nat_tests}
-use Rattle.std.proofs.lemmas.List.{length-set, length-replicate, length-map, length-append}
+use Rattle.std.proofs.lemmas.List.{append-nil, length-set, length-replicate, length-map, length-append}
 use Rattle.std.proofs.lemmas.List.Elements.{All-nil, All-cons, All-head, All-tail, All-weaker}
 use Rattle.std.proofs.lemmas.Map.Keys.{IsDistinct-head, IsDistinct-tail}
 use Rattle.std.proofs.lemmas.Map.Steps.{length-le_from_distinct_below}
@@ -17,13 +17,13 @@ use Rattle.esql_plan.specs.Values.{NumberedRow}
 use Rattle.esql_scalar.specs.Rows.{row_of}
 use Rattle.plan_semantics.specs.Groups.{Entry, rows_of_groups, failures_of_groups}
 use Rattle.plan_semantics.specs.Tables.{empty_row, with_cell}
-use Rattle.plan_semantics.specs.Stats.{input_cell, entry_of, entries_of, row_of_columns, stats_columns, stats_row, stats_rows, stats_failures}
+use Rattle.plan_semantics.specs.Stats.{entry_of, entries_of, row_of_columns, stats_columns, stats_rows, stats_failures}
+use Rattle.stats_groups.specs.Entries.{entry_of_row}
 use Rattle.stats_groups.specs.Grouped.{Grouped, with_entry, rows_grouped, failures_grouped}
 use Rattle.plan_semantics.specs.WellFormed.{AreOnce, Bounds, MadeColumn, MakesNew, StatsStand}
 use Rattle.plan_rows.specs.Kept.{rows_of, AreWide, kept_columns, kept_stats}
 use Rattle.plan_rows.specs.Runs.{StatsRun}
 use Rattle.plan_rows.proofs.NumberedRows.{row_of-nulls, row_of-set}
-use Rattle.plan_rows.proofs.ListTurns.{map_turn}
 
 abbrev IsBelow : ℕ → ColId → Type 0
 IsBelow columns to = to.0 < columns
@@ -152,22 +152,43 @@ entries_kept aggregates groups (row ∷ rows) = λ i. entry_of aggregates groups
 -- groups of these rows
 abbrev pub grouped_rows : List Aggregate → List GroupColumn → List (List (List Value)) → Grouped
 grouped_rows aggregates groups rows = record {
-  columns = length groups;
+  columns = groups;
   aggregates = aggregates;
   entries = Some (map (λ (row : List (List Value)). entry_of aggregates groups (row_of row)) rows);
 }
 
--- one row more
-pub grouped_turn : (aggregates : List Aggregate) (groups : List GroupColumn) (rows : List (List (List Value))) (place : ℕ) (row keys inputs : List (List Value)) (before after : Grouped)
-    → before ≡ grouped_rows aggregates groups (take place rows) → place < length rows → row ≡ get_or rows place row
-    → keys ≡ map (λ (group : GroupColumn). row_of row group.id.0) groups → inputs ≡ map (λ (aggregate : Aggregate). input_cell (row_of row) aggregate.input) aggregates
-    → after ≡ with_entry (record { keys = keys; inputs = inputs }) before → after ≡ grouped_rows aggregates groups (take (place + 1) rows)
-grouped_turn aggregates groups rows place row keys inputs before after so_far within is own given made =
+-- groups with these rows behind those that they have
+abbrev pub with_rows : List Aggregate → List GroupColumn → List (List (List Value)) → Grouped → Grouped
+with_rows aggregates groups rows grouped = record {
+  columns = grouped.columns;
+  aggregates = grouped.aggregates;
+  entries = option_map (λ (entries : List Entry). entries ++ map (λ (row : List (List Value)). entry_of aggregates groups (row_of row)) rows) grouped.entries;
+}
+
+entries_turn : (entries : Option (List Entry)) (one : Entry) (rest : List Entry)
+    → option_map (λ (these : List Entry). these ++ rest) (option_map (λ (these : List Entry). these ++ one ∷ []) entries) ≡ option_map (λ (these : List Entry). these ++ one ∷ rest) entries
+entries_turn None one rest = refl
+entries_turn (Some entries) one rest = ap Some (append_assoc entries (one ∷ []) rest)
+
+-- the next of the rows is added
+pub with_rows_turn : (aggregates : List Aggregate) (groups : List GroupColumn) (whole : List (List (List Value))) (row : List (List Value)) (rest items : List (List (List Value)))
+    (before after : Grouped) → with_rows aggregates groups items before ≡ grouped_rows aggregates groups whole → items ≡ row ∷ rest
+    → after ≡ with_entry (entry_of_row before.columns before.aggregates row) before → with_rows aggregates groups rest after ≡ grouped_rows aggregates groups whole
+with_rows_turn aggregates groups whole row rest items before after so_far next made =
+    let by : before.columns ≡ groups = ap (λ (one : Grouped). one.columns) so_far in
+    let over : before.aggregates ≡ aggregates = ap (λ (one : Grouped). one.aggregates) so_far in
     let entry : List (List Value) → Entry = λ row. entry_of aggregates groups (row_of row) in
-    made
-    ∙ (λ i. with_entry (record { keys = own i; inputs = given i }) (so_far i))
-    ∙ ap (λ (entries : List Entry). record { columns = length groups; aggregates = aggregates; entries = Some entries })
-    (map_turn entry [] (map entry (take place rows)) (map entry (take place rows) ++ entry row ∷ []) rows place row refl within is refl)
+    ap (with_rows aggregates groups rest) (made ∙ (λ i. with_entry (entry_of_row (by i) (over i) row) before))
+    ∙ (λ i. record { columns = before.columns; aggregates = before.aggregates; entries = entries_turn before.entries (entry row) (map entry rest) i })
+    ∙ ap (λ (these : List (List (List Value))). with_rows aggregates groups these before) (sym next)
+    ∙ so_far
+
+none_behind : (entries : Option (List Entry)) → option_map (λ (these : List Entry). these ++ []) entries ≡ entries
+none_behind None = refl
+none_behind (Some entries) = ap Some (append-nil entries)
+
+pub with_none : (aggregates : List Aggregate) (groups : List GroupColumn) (grouped : Grouped) → with_rows aggregates groups [] grouped ≡ grouped
+with_none aggregates groups grouped = λ i. record { columns = grouped.columns; aggregates = grouped.aggregates; entries = none_behind grouped.entries i }
 
 abbrev value_or : {Item : Type 0} → Item → Option Item → Item
 value_or other None = other

@@ -2,3 +2,4 @@ pub mod Held
 pub mod Places
 pub mod Kept
 pub mod Runs
+pub mod Settings

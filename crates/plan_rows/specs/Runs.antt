@@ -1,20 +1,27 @@
 -- What a step needs to be run.
-use Rattle.std.specs.Prelude.{ℕ, ◌<◌, ◌≤◌, List, All, length}
+use Rattle.std.specs.Prelude.{◌≡◌, ℕ, ◌<◌, ◌≤◌, List, All, length, Some, slice_get}
 use Rattle.esql_types.specs.declared.value.Value.{Value}
 use Rattle.esql_types.specs.declared.names.ColId.{ColId}
+use Rattle.esql_plan.specs.declared.catalog.PolicyShape.{PolicyShape}
 use Rattle.esql_plan.specs.declared.plan.PlanSource.{PlanSource}
 use Rattle.esql_plan.specs.declared.plan.PlanSource.TheVariants.{OneRow, Scan}
 use Rattle.esql_plan.specs.declared.plan.ScanColumn.{ScanColumn}
 use Rattle.esql_plan.specs.declared.step.Aggregate.{Aggregate}
 use Rattle.esql_plan.specs.declared.step.GroupColumn.{GroupColumn}
+use Rattle.esql_plan.specs.declared.step.NewColumn.{NewColumn}
 use Rattle.esql_plan.specs.declared.step.Step.{Step}
 use Rattle.esql_plan.specs.declared.step.Step.TheVariants.{Eval, Filter, Sort, TopN, Limit, Expand, Stats, Dissect, Grok, Enrich}
 use Rattle.esql_plan.specs.Fits.{ExprFits}
 use Rattle.esql_plan.specs.Values.{NumberedRow}
+use Rattle.dissect_grok.specs.declared.cutter.Cutter.{Cutter}
+use Rattle.dissect_grok.specs.declared.cutter.Cutter.TheVariants as cutter
+use Rattle.dissect_grok.specs.Patterns.{Reading, reading_of}
+use Rattle.dissect_grok.specs.Groks.{GrokRead, grok_of}
 use Rattle.plan_semantics.specs.Laws.{AreBelow}
+use Rattle.plan_semantics.specs.Taken.{Taken}
 use Rattle.plan_semantics.specs.Stats.{stats_columns, stats_failures}
 use Rattle.plan_semantics.specs.Steps.{step_fails}
-use Rattle.plan_semantics.specs.WellFormed.{AreOnce}
+use Rattle.plan_semantics.specs.WellFormed.{Bounds, AreOnce}
 
 -- the rows have a cell of the column number
 abbrev pub HaveCell : ColId → List (List (List Value)) → Type 0
@@ -37,8 +44,8 @@ StatsFailBelow nodes (Sort keys) = Unit {0}
 StatsFailBelow nodes (TopN keys count) = Unit {0}
 StatsFailBelow nodes (Limit count) = Unit {0}
 StatsFailBelow nodes (Stats aggregates groups) = GroupsFailBelow nodes aggregates groups
-StatsFailBelow nodes (Dissect node input cutter to) = Unit {0}
-StatsFailBelow nodes (Grok node input cutter to) = Unit {0}
+StatsFailBelow nodes (Dissect node input cutter pattern separator to) = Unit {0}
+StatsFailBelow nodes (Grok node input cutter pattern to) = Unit {0}
 StatsFailBelow nodes (Enrich policy on fields to) = Unit {0}
 
 -- the columns that Stats makes differ and are below a number, and rows are not grouped by more columns than that
@@ -47,18 +54,50 @@ pub record StatsRun (columns : ℕ) (aggregates : List Aggregate) (groups : List
   pub below : All (λ to. to.0 < columns) (stats_columns aggregates groups)
   pub once : AreOnce (stats_columns aggregates groups)
 
--- the expression of a step fits the patterns, and the columns that it makes are below a number; the last three cannot be run
-abbrev pub CanRun : List (List ℕ) → List (List ℕ) → ℕ → Step → Type 0
-CanRun whole free columns (Eval to expr) = ExprFits whole free expr × (to.0 < columns)
-CanRun whole free columns (Filter node condition) = ExprFits whole free condition
-CanRun whole free columns (Expand id to) = to.0 < columns
-CanRun whole free columns (Sort keys) = Unit {0}
-CanRun whole free columns (TopN keys count) = Unit {0}
-CanRun whole free columns (Limit count) = Unit {0}
-CanRun whole free columns (Stats aggregates groups) = StatsRun columns aggregates groups
-CanRun whole free columns (Dissect node input cutter to) = ⊥
-CanRun whole free columns (Grok node input cutter to) = ⊥
-CanRun whole free columns (Enrich policy on fields to) = ⊥
+-- new columns are below a number
+abbrev pub AreNewBelow : ℕ → List NewColumn → Type 0
+AreNewBelow columns to = All (λ (new : NewColumn). new.id.0 < columns) to
+
+-- the rows have a cell of each new column
+abbrev pub HaveNew : List NewColumn → List (List (List Value)) → Type 0
+HaveNew to rows = All (λ row. AreNewBelow (length row) to) rows
+
+-- what a cell gives fails at nodes below a number
+abbrev pub TakenBelow : ℕ → (List Value → Taken) → Type 0
+TakenBelow nodes take = (cell : List Value) → AreBelow nodes (take cell).failures
+
+-- a number of a cutter has what the pattern of DISSECT is read as
+pub record DissectRun (bounds : Bounds) (number : ℕ) (pattern separator : List ℕ) (to : List NewColumn) : Type 0 where
+  pub reading : Reading
+  pub read : reading_of pattern separator ≡ Some reading
+  pub cutter : slice_get bounds.cutters number ≡ Some (cutter.Dissect reading)
+  pub below : AreNewBelow bounds.columns to
+
+-- a number of a cutter has what the pattern of GROK is read as
+pub record GrokRun (bounds : Bounds) (number : ℕ) (pattern : List ℕ) (to : List NewColumn) : Type 0 where
+  pub reading : GrokRead
+  pub read : grok_of pattern ≡ Some reading
+  pub cutter : slice_get bounds.cutters number ≡ Some (cutter.Grok reading)
+  pub below : AreNewBelow bounds.columns to
+
+-- the policy of a number is there
+pub record EnrichRun (bounds : Bounds) (number : ℕ) (to : List NewColumn) : Type 0 where
+  pub policy : PolicyShape
+  pub is : slice_get bounds.catalog.policies number ≡ Some policy
+  pub below : AreNewBelow bounds.columns to
+
+-- The expression of a step fits the patterns, its cutter and its policy are there, and the columns that it makes are below a number.
+abbrev pub CanRun : Bounds → Step → Type 0
+CanRun bounds (Eval to expr) = ExprFits bounds.whole bounds.free expr × (to.0 < bounds.columns)
+CanRun bounds (Filter node condition) = ExprFits bounds.whole bounds.free condition
+CanRun bounds (Expand id to) = to.0 < bounds.columns
+CanRun bounds (Sort keys) = Unit {0}
+CanRun bounds (TopN keys count) = Unit {0}
+CanRun bounds (Limit count) = Unit {0}
+CanRun bounds (Stats aggregates groups) = StatsRun bounds.columns aggregates groups
+CanRun bounds (Dissect node input number pattern separator to) = DissectRun bounds number pattern separator to
+CanRun bounds (Grok node input number pattern to) = GrokRun bounds number pattern to
+CanRun bounds (Enrich policy on fields to) = EnrichRun bounds policy to
 
 -- the columns of a scan are below a number
 abbrev pub IsScanBelow : ℕ → PlanSource → Type 0

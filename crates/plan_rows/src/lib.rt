@@ -3,6 +3,8 @@
 //! Read its specs in this order: `Held`, `Places`, `Kept`, `Runs`.
 #![tactic(auto)]
 
+mod cuts;
+mod enrich;
 mod order;
 mod run;
 mod source;

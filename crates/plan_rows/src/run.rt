@@ -7,18 +7,33 @@ ghost use Rattle.plan_semantics.specs.WellFormed.{IsWellFormed, AreTables};
 ghost use Rattle.warn_log.specs.Logs.{logged};
 ghost use Rattle.plan_rows.specs.Held.{tables_held};
 ghost use Rattle.plan_rows.specs.Kept.{rows_of, AreWide, kept_rows, kept_failures};
+ghost use Rattle.plan_rows.specs.Settings.{bounds_over, held_by};
 ghost use Rattle.plan_rows.specs.Runs.{CanRun, FailsBelow, StatsFailBelow};
 
+use crate::cuts::{dissect_at, dissect_rows, grok_at, grok_rows};
+use crate::enrich::{enrich_rows, lookup_of, policy_at};
 use crate::order::{first_rows, sort_rows};
 use crate::source::{cell_of, source_rows};
 use crate::stats::stats_rows;
 use crate::steps::{eval_rows, expand_rows, filter_rows};
+use dissect_grok::Cutter;
 use esql_plan::{Catalog, OutColumn, Plan, Step};
 use esql_types::{Cell, Seq};
 use ndjson_load::Table;
 use std::alloc::{AllocError, Global};
 use text_match::Patterns;
 use warn_log::Log;
+
+/// What steps are run over: the catalog with its tables in order, the patterns and cutters that steps read, and how many columns
+/// each row has.
+#[derive(Clone, Copy)]
+pub(crate) struct Setting<'a> {
+    pub(crate) catalog: &'a Catalog,
+    pub(crate) tables: &'a [Table],
+    pub(crate) patterns: &'a Patterns,
+    pub(crate) cutters: &'a [Cutter],
+    pub(crate) columns: u32,
+}
 
 /// The rows that a plan shows of the tables of its catalog, step by step; what fails on the way is noted in the log.
 ///
@@ -30,9 +45,10 @@ pub fn run_plan(
     catalog: &Catalog,
     tables: &[Table],
     patterns: &Patterns,
+    cutters: &[Cutter],
     log: &mut Log,
 ) -> Result<Seq<Seq<Cell>>, AllocError>
-    requires formed { IsWellFormed catalog.now patterns.now.whole patterns.now.free plan.now }
+    requires formed { IsWellFormed catalog.now patterns.now.whole patterns.now.free cutters.now plan.now }
     requires tables { AreTables catalog.now (tables_held catalog.now tables.now) }
     requires log { plan.now.nodes ≤ length log.old }
     ensures rows { IfOk result (λ rows. rows ≡ (plan_means plan.now (tables_held catalog.now tables.now)).rows) }
@@ -40,37 +56,36 @@ pub fn run_plan(
     ensures nodes { OnOk result (length log.new ≡ length log.old) }
 {
     let rows = source_rows(alloc, &plan.source, plan.columns, catalog, tables)?;
-    let rows = run_steps(
-        alloc,
-        plan.steps.as_slice(),
-        plan.columns,
-        rows,
+    let setting = Setting {
+        catalog,
+        tables,
         patterns,
-        log,
-    )?;
+        cutters,
+        columns: plan.columns,
+    };
+    let rows = run_steps(alloc, setting, plan.steps.as_slice(), rows, log)?;
     shown_rows(alloc, plan.output.as_slice(), rows.as_slice())
 }
 
 /// The rows after steps one after another, of rows that have so many columns.
 fn run_steps(
     alloc: Global,
+    setting: Setting<'_>,
     steps: &[Step],
-    columns: u32,
     source: Seq<Seq<Cell>>,
-    patterns: &Patterns,
     log: &mut Log,
 ) -> Result<Seq<Seq<Cell>>, AllocError>
-    requires run { All (CanRun patterns.now.whole patterns.now.free columns) steps.now }
-    requires wide { AreWide columns source }
+    requires run { All (CanRun (bounds_over setting)) steps.now }
+    requires wide { AreWide setting.columns source }
     requires fails { All (FailsBelow (length log.old)) steps.now }
     requires stats { All (StatsFailBelow (length log.old)) steps.now }
-    ensures rows { IfOk result (λ rows. rows_of rows ≡ rows_after steps.now (rows_of source)) }
-    ensures log { OnOk result (log.new ≡ logged log.old (failures_after steps.now (rows_of source))) }
+    ensures rows { IfOk result (λ rows. rows_of rows ≡ rows_after (held_by setting.entry) steps.now (rows_of source)) }
+    ensures log { OnOk result (log.new ≡ logged log.old (failures_after (held_by setting.entry) steps.now (rows_of source))) }
     ensures nodes { OnOk result (length log.new ≡ length log.old) }
 {
     let mut rows = source;
     for step in steps {
-        rows = run_step(alloc, step, columns, rows, patterns, log)?;
+        rows = run_step(alloc, setting, step, rows, log)?;
     }
     Ok(rows)
 }
@@ -78,20 +93,20 @@ fn run_steps(
 /// The rows after a step, of rows that have so many columns.
 fn run_step(
     alloc: Global,
+    setting: Setting<'_>,
     step: &Step,
-    columns: u32,
     rows: Seq<Seq<Cell>>,
-    patterns: &Patterns,
     log: &mut Log,
 ) -> Result<Seq<Seq<Cell>>, AllocError>
-    requires run { CanRun patterns.now.whole patterns.now.free columns step.now }
-    requires wide { AreWide columns rows }
+    requires run { CanRun (bounds_over setting) step.now }
+    requires wide { AreWide setting.columns rows }
     requires fails { FailsBelow (length log.old) step.now }
     requires stats { StatsFailBelow (length log.old) step.now }
-    ensures rows { IfOk result (λ new. new ≡ kept_rows columns step.now rows) }
+    ensures rows { IfOk result (λ new. new ≡ kept_rows (held_by setting.entry) setting.entry.columns step.now rows) }
     ensures log { OnOk result (log.new ≡ logged log.old (kept_failures step.now rows)) }
     ensures nodes { OnOk result (length log.new ≡ length log.old) }
 {
+    let patterns = setting.patterns;
     match step {
         Step::Eval { to, expr } => eval_rows(alloc, *to, expr, rows, patterns, log),
         Step::Filter { node, condition } => {
@@ -108,13 +123,41 @@ fn run_step(
             alloc,
             aggregates.as_slice(),
             groups.as_slice(),
-            columns,
+            setting.columns,
             rows,
             log,
         ),
-        Step::Dissect { .. } => unreachable!(),
-        Step::Grok { .. } => unreachable!(),
-        Step::Enrich { .. } => unreachable!(),
+        Step::Dissect {
+            input,
+            cutter,
+            to,
+            ..
+        } => {
+            let dissect = dissect_at(setting.cutters, *cutter);
+            dissect_rows(alloc, *input, dissect, to.as_slice(), rows)
+        }
+        Step::Grok {
+            node,
+            input,
+            cutter,
+            to,
+            ..
+        } => {
+            let grok = grok_at(setting.cutters, *cutter);
+            let to = to.as_slice();
+            grok_rows(alloc, *node, *input, grok, to, rows, patterns, log)
+        }
+        Step::Enrich {
+            policy,
+            on,
+            fields,
+            to,
+        } => {
+            let policy = policy_at(setting.catalog, *policy);
+            let lookup = lookup_of(alloc, policy, setting.catalog, setting.tables)?;
+            let fields = fields.as_slice();
+            enrich_rows(alloc, *on, fields, &lookup, to.as_slice(), rows)
+        }
     }
 }
 

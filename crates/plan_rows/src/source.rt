@@ -27,7 +27,7 @@ pub(crate) fn source_rows(
 ) -> Result<Seq<Seq<Cell>>, AllocError>
     requires { IsScanBelow columns source.now }
     ensures wide { IfOk result (AreWide columns) }
-    ensures rows { IfOk result (λ rows. rows_of rows ≡ source_rows (tables_held catalog.now tables.now) source.now) }
+    ensures rows { IfOk result (λ rows. rows_of rows ≡ source_rows (tables_held catalog.now tables.now).tables source.now) }
 {
     match source {
         PlanSource::OneRow => one_row(alloc, columns),
@@ -76,7 +76,7 @@ fn scan(
 ) -> Result<Seq<Seq<Cell>>, AllocError>
     requires { All (λ (column : Scanned). column.to.0 < columns) scanned.now }
     ensures wide { IfOk result (AreWide columns) }
-    ensures rows { IfOk result (λ rows. rows_of rows ≡ flat_map (λ number. scan_table scanned.now (slice_get (tables_held catalog.now tables.now) number)) numbers.now) }
+    ensures rows { IfOk result (λ rows. rows_of rows ≡ flat_map (λ number. scan_table scanned.now (slice_get (tables_held catalog.now tables.now).tables number)) numbers.now) }
 {
     let mut rows = Seq::new(alloc);
     for number in numbers {
@@ -106,7 +106,7 @@ fn add_table(
     requires below { All (λ (column : Scanned). column.to.0 < columns) scanned.now }
     requires wide { AreWide columns rows.old }
     ensures wide { OnOk result (AreWide columns rows.new) }
-    ensures rows { OnOk result (rows_of rows.new ≡ rows_of rows.old ++ scan_table scanned.now (slice_get (tables_held catalog.now tables.now) number)) }
+    ensures rows { OnOk result (rows_of rows.new ≡ rows_of rows.old ++ scan_table scanned.now (slice_get (tables_held catalog.now tables.now).tables number)) }
 {
     match (catalog.tables.at(number), table_at(tables, number)) {
         (Some(shape), Some(table)) => {
@@ -118,7 +118,7 @@ fn add_table(
     }
 }
 
-fn table_at(tables: &[Table], number: usize) -> Option<&Table>
+pub(crate) fn table_at(tables: &[Table], number: usize) -> Option<&Table>
     ensures { option_copied result ≡ slice_get tables.now number }
 {
     tables.get(number)
@@ -155,7 +155,7 @@ fn no_places(alloc: Global, count: u32) -> Result<Seq<Option<usize>>, AllocError
 }
 
 /// The place of the first column of each name.
-fn places_by_name<'a>(
+pub(crate) fn places_by_name<'a>(
     alloc: Global,
     columns: &'a [Column],
 ) -> Result<BTreeMap<&'a str, usize>, AllocError>
@@ -170,7 +170,7 @@ fn places_by_name<'a>(
     Ok(named)
 }
 
-fn place_named(named: &BTreeMap<&str, usize>, name: &Text) -> Option<usize>
+pub(crate) fn place_named(named: &BTreeMap<&str, usize>, name: &Text) -> Option<usize>
     ensures { result ≡ get_by (λ key. slice_cmp nat_cmp name.now key.now) named.now }
 {
     named.get(name.as_str()).copied()
@@ -191,7 +191,7 @@ fn add_rows(
     Ok(())
 }
 
-fn cells_in(
+pub(crate) fn cells_in(
     alloc: Global,
     places: &[Option<usize>],
     row: &Seq<Cell>,
@@ -205,7 +205,11 @@ fn cells_in(
     Ok(Seq::from_vec(cells))
 }
 
-fn cell_in(alloc: Global, row: &Seq<Cell>, place: Option<usize>) -> Result<Cell, AllocError>
+pub(crate) fn cell_in(
+    alloc: Global,
+    row: &Seq<Cell>,
+    place: Option<usize>,
+) -> Result<Cell, AllocError>
     ensures { IfOk result (λ cell. cell ≡ cell_in row.now place) }
 {
     match place {

@@ -1,14 +1,12 @@
 //! Rows into groups.
-ghost use Rattle.std.specs.Prelude.{◌≡◌, ◌≤◌, ◌<◌, [], All, length, map, replicate, Some, IfOk, OnOk};
+ghost use Rattle.std.specs.Prelude.{◌≡◌, ◌<◌, [], All, length, map, replicate, Some, IfOk, OnOk};
 ghost use Rattle.esql_plan.specs.declared.step.Aggregate.{Aggregate as AggregateOf};
-ghost use Rattle.esql_plan.specs.declared.step.GroupColumn.{GroupColumn as GroupOf};
 ghost use Rattle.esql_scalar.specs.Rows.{row_of};
-ghost use Rattle.plan_semantics.specs.Stats.{entry_of, input_cell, stats_columns, stats_failures};
+ghost use Rattle.plan_semantics.specs.Stats.{entry_of, stats_columns, stats_failures};
 ghost use Rattle.warn_log.specs.Logs.{logged};
 ghost use Rattle.plan_rows.specs.Kept.{rows_of, kept_columns, kept_stats};
 ghost use Rattle.plan_rows.specs.Runs.{GroupsFailBelow};
 
-use crate::source::{cell_of, nulls};
 use crate::steps::note_failures;
 use esql_plan::{Aggregate, GroupColumn};
 use esql_types::{Cell, ColId, Seq};
@@ -26,14 +24,13 @@ pub(crate) fn stats_rows(
     rows: Seq<Seq<Cell>>,
     log: &mut Log,
 ) -> Result<Seq<Seq<Cell>>, AllocError>
-    requires few { length groups.now ≤ columns }
     requires below { All (λ to. to.0 < columns) (stats_columns aggregates.now groups.now) }
     requires fails { GroupsFailBelow (length log.old) aggregates.now groups.now }
     ensures rows { IfOk result (λ new. new ≡ kept_stats columns aggregates.now groups.now rows) }
     ensures log { OnOk result (log.new ≡ logged log.old (stats_failures aggregates.now groups.now (rows_of rows))) }
     ensures nodes { OnOk result (length log.new ≡ length log.old) }
 {
-    let grouped = grouped(alloc, aggregates, groups, rows.as_slice())?;
+    let grouped = grouped(alloc, aggregates, groups, rows)?;
     let mut failures = Seq::new(alloc);
     let cells = grouped.finish(&mut failures)?;
     note_failures(log, failures);
@@ -41,68 +38,26 @@ pub(crate) fn stats_rows(
     placed_rows(alloc, columns_made.as_slice(), columns, cells)
 }
 
-/// The groups of rows.
+/// The groups of rows, each of which is freed once it is added.
 fn grouped(
     alloc: Global,
     aggregates: &[Aggregate],
     groups: &[GroupColumn],
-    rows: &[Seq<Cell>],
+    rows: Seq<Seq<Cell>>,
 ) -> Result<Groups, AllocError>
-    requires { length groups.now ≤ 4294967295 }
     ensures { IfOk result (λ grouped. grouped ≡ record {
-      columns = length groups.now;
+      columns = groups.now;
       aggregates = aggregates.now;
-      entries = Some (map (λ row. entry_of aggregates.now groups.now (row_of row)) rows.now);
+      entries = Some (map (λ row. entry_of aggregates.now groups.now (row_of row)) rows);
     }) }
 {
-    let mut copies = Vec::new(alloc);
-    copies.extend_from_slice(aggregates)?;
-    let mut grouped = Groups::new(alloc, groups.len() as u32, Seq::from_vec(copies))?;
-    for row in rows {
-        let keys = key_cells(alloc, groups, row)?;
-        let inputs = input_cells(alloc, aggregates, row)?;
-        grouped.add_row(&keys, &inputs)?;
+    let columns = Seq::from_vec(Vec::from_slice(alloc, groups)?);
+    let running = Seq::from_vec(Vec::from_slice(alloc, aggregates)?);
+    let mut grouped = Groups::new(alloc, columns, running)?;
+    for row in rows.into_vec() {
+        grouped.add_row(row)?;
     }
     Ok(grouped)
-}
-
-/// The cells of the columns that a row is grouped by.
-fn key_cells(
-    alloc: Global,
-    groups: &[GroupColumn],
-    row: &Seq<Cell>,
-) -> Result<Seq<Cell>, AllocError>
-    ensures { IfOk result (λ cells. cells ≡ map (λ (group : GroupOf). row_of row.now group.id.0) groups.now) }
-{
-    let mut cells = Vec::with_capacity(alloc, groups.len())?;
-    for group in groups {
-        cells.push(cell_of(alloc, row, group.id.0 as usize)?)?;
-    }
-    Ok(Seq::from_vec(cells))
-}
-
-/// The cells of the inputs of aggregates, null for one that has none.
-fn input_cells(
-    alloc: Global,
-    aggregates: &[Aggregate],
-    row: &Seq<Cell>,
-) -> Result<Seq<Cell>, AllocError>
-    ensures { IfOk result (λ cells. cells ≡ map (λ (aggregate : AggregateOf). input_cell (row_of row.now) aggregate.input) aggregates.now) }
-{
-    let mut cells = Vec::with_capacity(alloc, aggregates.len())?;
-    for aggregate in aggregates {
-        cells.push(input_cell(alloc, aggregate.input, row)?)?;
-    }
-    Ok(Seq::from_vec(cells))
-}
-
-fn input_cell(alloc: Global, input: Option<ColId>, row: &Seq<Cell>) -> Result<Cell, AllocError>
-    ensures { IfOk result (λ cell. cell ≡ input_cell (row_of row.now) input) }
-{
-    match input {
-        Some(id) => cell_of(alloc, row, id.0 as usize),
-        None => Ok(Cell::null(alloc)),
-    }
 }
 
 /// The columns that are made, those of the aggregates before those of the groups.
@@ -140,7 +95,7 @@ fn placed_rows(
     requires { All (λ to. to.0 < columns) made.now }
     ensures { IfOk result (λ new. new ≡ map (kept_columns (replicate columns []) made.now) rows) }
 {
-    let mut new = Seq::new(alloc);
+    let mut new = Seq::from_vec(Vec::with_capacity(alloc, rows.len())?);
     for cells in rows.into_vec() {
         new.push(placed_row(alloc, made, columns, cells)?)?;
     }
@@ -156,7 +111,7 @@ fn placed_row(
     requires { All (λ to. to.0 < columns) made.now }
     ensures { IfOk result (λ row. row ≡ kept_columns (replicate columns []) made.now cells) }
 {
-    let mut row = nulls(alloc, columns)?;
+    let mut row = wide_row(alloc, columns)?;
     let mut place = 0;
     for cell in cells.into_vec() {
         if place < made.len() {
@@ -165,4 +120,15 @@ fn placed_row(
         }
     }
     Ok(row)
+}
+
+/// A row of so many nulls, in no more memory than they take.
+fn wide_row(alloc: Global, columns: u32) -> Result<Seq<Cell>, AllocError>
+    ensures { IfOk result (λ row. row ≡ replicate columns []) }
+{
+    let mut row = Vec::with_capacity(alloc, columns as usize)?;
+    for _ in 0..columns {
+        row.push(Cell::null(alloc))?;
+    }
+    Ok(Seq::from_vec(row))
 }

@@ -8,7 +8,7 @@ ghost use Rattle.esql_scalar.specs.Rows.{row_of};
 ghost use Rattle.plan_semantics.specs.Laws.{AreBelow};
 ghost use Rattle.plan_semantics.specs.Steps.{is_true, step_fails, failures_of_condition};
 ghost use Rattle.warn_log.specs.Logs.{logged};
-ghost use Rattle.plan_rows.specs.Kept.{expanded_cells, kept_gives, kept_failures};
+ghost use Rattle.plan_rows.specs.Kept.{expanded_cells, kept_eval, kept_if, kept_expanded, kept_failures};
 ghost use Rattle.plan_rows.specs.Runs.{FailsBelow, HaveCell};
 
 use crate::source::cell_of;
@@ -32,7 +32,7 @@ pub(crate) fn eval_rows(
     requires fits { ExprFits patterns.now.whole patterns.now.free expr.now }
     requires to { HaveCell to rows }
     requires fails { FailsBelow (length log.old) (Eval to expr.now) }
-    ensures rows { IfOk result (λ new. new ≡ flat_map (kept_gives (Eval to expr.now)) rows) }
+    ensures rows { IfOk result (λ new. new ≡ flat_map (kept_eval to expr.now) rows) }
     ensures log { OnOk result (log.new ≡ logged log.old (kept_failures (Eval to expr.now) rows)) }
     ensures nodes { OnOk result (length log.new ≡ length log.old) }
 {
@@ -87,7 +87,7 @@ pub(crate) fn filter_rows(
 ) -> Result<Seq<Seq<Cell>>, AllocError>
     requires fits { ExprFits patterns.now.whole patterns.now.free condition.now }
     requires fails { FailsBelow (length log.old) (Filter node condition.now) }
-    ensures rows { IfOk result (λ new. new ≡ flat_map (kept_gives (Filter node condition.now)) rows) }
+    ensures rows { IfOk result (λ new. new ≡ flat_map (kept_if condition.now) rows) }
     ensures log { OnOk result (log.new ≡ logged log.old (kept_failures (Filter node condition.now) rows)) }
     ensures nodes { OnOk result (length log.new ≡ length log.old) }
 {
@@ -147,7 +147,7 @@ pub(crate) fn expand_rows(
     rows: Seq<Seq<Cell>>,
 ) -> Result<Seq<Seq<Cell>>, AllocError>
     requires { HaveCell to rows }
-    ensures { IfOk result (λ new. new ≡ flat_map (kept_gives (Expand id to)) rows) }
+    ensures { IfOk result (λ new. new ≡ flat_map (kept_expanded id to) rows) }
 {
     let mut new = Seq::new(alloc);
     for row in rows.into_vec() {

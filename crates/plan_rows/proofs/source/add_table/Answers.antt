@@ -30,18 +30,18 @@ returns-in_ok-places-in-Some-Some-clause-rows c =
     sym c.table_at.ensures ∙ ap option_copied (c.in-Some-Some.is-1 ∙ ap Some c.in-Some-Some.table-is) ∙ ap Some (sym c.as_slice-in-Some-Some-2.ensures) in
     on_ok_weaker c.add_rows.result
     (λ made. rows_more c.args.columns c.args.scanned.now c.in-Some-Some.shape.now before c.as_slice-in-Some-Some-2.result.now after c.as_slice-in-Some-Some.result.now (c.as_slice-in-Some-Some.ensures ∙ are) made c.requires.below
-    (slice_get (tables_held c.args.catalog.now c.args.tables.now) c.args.number)
+    (slice_get (tables_held c.args.catalog.now c.args.tables.now).tables c.args.number)
     (held_at shapes c.args.tables.now c.args.number c.in-Some-Some.shape.now c.as_slice-in-Some-Some-2.result.now there held))
     c.add_rows.ensures
 
 pub returns-in-Some-None-clause-rows : goal.returns-in-Some-None-clause-rows
 returns-in-Some-None-clause-rows c =
     let none : slice_get c.args.tables.now c.args.number ≡ None = sym c.table_at.ensures ∙ ap option_copied c.in-Some-None.is-1 in
-    none_more c.args.scanned.now (rows_of c.args.rows.now) (slice_get (tables_held c.args.catalog.now c.args.tables.now) c.args.number)
+    none_more c.args.scanned.now (rows_of c.args.rows.now) (slice_get (tables_held c.args.catalog.now c.args.tables.now).tables c.args.number)
     (without_rows c.args.catalog.now.tables c.args.tables.now c.args.number none)
 
 pub returns-in-None-default-clause-rows : goal.returns-in-None-default-clause-rows
 returns-in-None-default-clause-rows c =
     let none : slice_get c.args.catalog.now.tables c.args.number ≡ None = sym c.at.ensures.value ∙ ap option_copied c.in-None-default.is-0 in
-    none_more c.args.scanned.now (rows_of c.args.rows.now) (slice_get (tables_held c.args.catalog.now c.args.tables.now) c.args.number)
+    none_more c.args.scanned.now (rows_of c.args.rows.now) (slice_get (tables_held c.args.catalog.now c.args.tables.now).tables c.args.number)
     (without_shape c.args.catalog.now.tables c.args.tables.now c.args.number none)

@@ -9,5 +9,5 @@ use Rattle.plan_rows.proofs.source.scan.Given as goal
 abbrev pub invariant-loop-number : goal.invariant-loop-number
 invariant-loop-number l = record {
   wide : AreWide l.columns l.rows;
-  rows : rows_of l.rows ≡ flat_map (λ number. scan_table l.scanned (slice_get (tables_held l.catalog l.tables) number)) (take l.number-index l.numbers);
+  rows : rows_of l.rows ≡ flat_map (λ number. scan_table l.scanned (slice_get (tables_held l.catalog l.tables).tables number)) (take l.number-index l.numbers);
 }

@@ -11,7 +11,7 @@ use Rattle.plan_rows.proofs.source.source_rows.Goals as goal
 
 pub returns-in-OneRow-clause-rows : goal.returns-in-OneRow-clause-rows
 returns-in-OneRow-clause-rows c =
-    let tables = tables_held c.args.catalog.now c.args.tables.now in
+    let tables = (tables_held c.args.catalog.now c.args.tables.now).tables in
     IfOk-weaker c.one_row.result (λ rows. rows ≡ replicate c.args.columns [] ∷ []) (λ rows. rows_of rows ≡ source_rows tables c.args.source.now)
     (λ rows is. ap rows_of is ∙ ap (λ (row : NumberedRow). row ∷ []) (row_of-nulls c.args.columns) ∙ ap (source_rows tables) (sym c.in-OneRow.is))
     c.one_row.ensures

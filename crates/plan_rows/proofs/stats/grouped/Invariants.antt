@@ -1,11 +1,10 @@
-use Rattle.std.proofs.Common.{◌≡◌, Some, length, map, take}
-use Rattle.esql_scalar.specs.Rows.{row_of}
-use Rattle.plan_semantics.specs.Stats.{entry_of}
+use Rattle.std.proofs.Common.{◌≡◌, length}
+use Rattle.std.specs.Vec.Iter.{into_iter_items, into_iter_len}
+use Rattle.plan_rows.proofs.StatsRows.{grouped_rows, with_rows}
 use Rattle.plan_rows.proofs.stats.grouped.Given as goal
 
 abbrev pub invariant-loop-row : goal.invariant-loop-row
-invariant-loop-row l = l.grouped ≡ record {
-  columns = length l.groups;
-  aggregates = l.aggregates;
-  entries = Some (map (λ row. entry_of l.aggregates l.groups (row_of row)) (take l.row-index l.rows));
+invariant-loop-row l = record {
+  counted : into_iter_len l.row-iterator ≡ length (into_iter_items l.row-iterator);
+  rows : with_rows l.aggregates l.groups (into_iter_items l.row-iterator) l.grouped ≡ grouped_rows l.aggregates l.groups l.fn.rows;
 }

@@ -1,4 +1,4 @@
-use Rattle.std.proofs.Common.{◌≡◌, [], ◌∙◌, ap, sym, drop, arith}
+use Rattle.std.proofs.Common.{◌∙◌, ap, sym, drop, arith}
 use Rattle.std.proofs.lemmas.List.{nil_from_length}
 use Rattle.std.specs.Vec.Iter.{into_iter_items}
 use Rattle.plan_rows.specs.Kept.{kept_columns}
