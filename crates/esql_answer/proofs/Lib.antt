@@ -1,2 +1,6 @@
+mod FewColumns
+mod FewTaken
 mod Plans
 mod Queries
+mod ShortQueries
+mod ShortTexts

@@ -11,10 +11,11 @@ use Rattle.esql_plan.specs.declared.catalog.Catalog.{Catalog}
 use Rattle.esql_plan.specs.declared.plan.Plan.{Plan}
 use Rattle.esql_plan.specs.declared.plan.OutColumn.{OutColumn}
 use Rattle.esql_plan.specs.Values.{NumberedRow}
+use Rattle.dissect_grok.specs.declared.cutter.Cutter.{Cutter}
 use Rattle.plan_semantics.specs.Agrees.{Agrees}
 use Rattle.plan_semantics.specs.Laws.{PlansFailBelow}
 use Rattle.plan_semantics.specs.Plans.{columns_of, plan_means, shown_row}
-use Rattle.plan_semantics.specs.Tables.{TableHeld, catalog_tables}
+use Rattle.plan_semantics.specs.Tables.{CatalogHeld, catalog_held}
 use Rattle.plan_semantics.specs.WellFormed.{IsWellFormed}
 use Rattle.query_semantics.specs.Meaning.{meaning_of, shown_under}
 use Rattle.query_semantics.specs.Shapes.{shape_of}
@@ -24,20 +25,20 @@ use Rattle.written_laws.specs.Laws.{PlansMeanQueries}
 
 -- the plan that a query is written as, which breaks no rule, shows what the query means over all tables of its catalog
 pub written_means : (text : List ℕ) (catalog : Catalog) (query : Query) (plan : Plan) → plan ≡ (written_of text catalog query).plan → shape_of text catalog query ≡ Ok (columns_of plan.output) → PlansMeanQueries
-    → (tables : List TableHeld) → catalog.tables ≡ catalog_tables tables → Agrees (plan_means plan tables) (shown_under (columns_of plan.output) (meaning_of text tables query))
-written_means text catalog query plan is shape mean tables of_catalog =
-    subst (λ (this : Plan). Agrees (plan_means this tables) (shown_under (columns_of plan.output) (meaning_of text tables query))) (sym is)
-    (mean text catalog tables query (columns_of plan.output) of_catalog shape)
+    → (held : CatalogHeld) → catalog ≡ catalog_held held → Agrees (plan_means plan held) (shown_under (columns_of plan.output) (meaning_of text held query))
+written_means text catalog query plan is shape mean held of_catalog =
+    subst (λ (this : Plan). Agrees (plan_means this held) (shown_under (columns_of plan.output) (meaning_of text held query))) (sym is)
+    (mean text catalog held query (columns_of plan.output) of_catalog shape)
 
 -- a log that was opened for the nodes of a well formed plan stands for what the plan fails with
-pub opened_stands : (catalog : Catalog) (whole free : List (List ℕ)) (plan : Plan) (tables : List TableHeld) (opened log : List (List Cause)) → IsWellFormed catalog whole free plan
-    → opened ≡ empty_log plan.nodes → log ≡ logged opened (plan_means plan tables).failures → PlansFailBelow
+pub opened_stands : (catalog : Catalog) (whole free : List (List ℕ)) (cutters : List Cutter) (plan : Plan) (held : CatalogHeld) (opened log : List (List Cause)) → IsWellFormed catalog whole free cutters plan
+    → opened ≡ empty_log plan.nodes → log ≡ logged opened (plan_means plan held).failures → PlansFailBelow
     → ((nodes : ℕ) (failures : List Failure) → All (λ (failure : Failure). failure.node.0 < nodes) failures → LogStands (logged (empty_log nodes) failures) failures)
-    → LogStands log (plan_means plan tables).failures
-opened_stands catalog whole free plan tables opened log formed empty noted below stands =
-    let failures : List Failure = (plan_means plan tables).failures in
+    → LogStands log (plan_means plan held).failures
+opened_stands catalog whole free cutters plan held opened log formed empty noted below stands =
+    let failures : List Failure = (plan_means plan held).failures in
     subst (λ (these : List (List Cause)). LogStands these failures) (sym (noted ∙ ap (λ (these : List (List Cause)). logged these failures) empty))
-    (stands plan.nodes failures (below catalog whole free plan formed tables))
+    (stands plan.nodes failures (below catalog whole free cutters plan formed held))
 
 -- a row that is shown has a cell for each column
 row_wide : (output : List OutColumn) (row : NumberedRow) → length (shown_row output row) ≡ length (columns_of output)

@@ -35,6 +35,7 @@ pub fn answer(alloc: Global, prepared: &Prepared, tables: &[Table]) -> Result<An
         &prepared.catalog,
         tables,
         &prepared.patterns,
+        prepared.cutters.as_slice(),
         &mut log,
     )?;
     let columns = columns_of(alloc, plan.output.as_slice())?;

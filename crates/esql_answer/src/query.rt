@@ -2,6 +2,7 @@ ghost use Rattle.std.specs.Prelude.{◌≡◌, ◌≤◌, length, IfOk, IfErr, M
 ghost use Rattle.esql_ast.specs.Fits.{QueryFits};
 ghost use Rattle.esql_ast.specs.Laws.{IsNumbered};
 ghost use Rattle.esql_lex.specs.Tokens.{FitsText, Tokens};
+ghost use Rattle.query_semantics.specs.Sizes.{IsShortQuery};
 ghost use Rattle.esql_answer.specs.declared.query.QueryError.TheVariants.{Refused};
 ghost use Rattle.esql_answer.specs.Queries.{IsQuery, IsUnread, point_at, unexpected_kind};
 
@@ -38,6 +39,7 @@ pub fn read_query(alloc: Global, text: &str) -> Result<Query, QueryError>
     ensures fits { IfOk result (QueryFits text.now) }
     ensures numbered { IfOk result IsNumbered }
     ensures few { IfOk result (λ query. query.nodes ≤ 65537) }
+    ensures short { IfOk result IsShortQuery }
 {
     if text.len() > LONGEST_QUERY {
         return Err(refused_at(Refusal::TooLong, 0));
@@ -70,6 +72,7 @@ fn parse_tokens(alloc: Global, text: &str, tokens: &Seq<Token>) -> Result<Query,
     ensures fits { IfOk result (QueryFits text.now) }
     ensures numbered { IfOk result IsNumbered }
     ensures few { IfOk result (λ query. query.nodes ≤ 65537) }
+    ensures short { IfOk result IsShortQuery }
 {
     match parse(alloc, text, tokens) {
         Ok(query) => Ok(query),

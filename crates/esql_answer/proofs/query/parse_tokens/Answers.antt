@@ -1,7 +1,11 @@
 use Rattle.std.proofs.Common.{⊎_elim}
 use Rattle.esql_answer.specs.Queries.{unexpected, too_deep, too_many}
 use Rattle.esql_answer.proofs.Queries.{refusal_unread}
+use Rattle.esql_answer.proofs.ShortQueries.{spelled_short}
 use Rattle.esql_answer.proofs.query.parse_tokens.Goals as goal
+
+pub returns-in-Ok-clause-short : goal.returns-in-Ok-clause-short
+returns-in-Ok-clause-short c = spelled_short c.args.text.now c.args.tokens.now c.in-Ok.query c.requires.short c.requires.fit c.in-Ok.ensures.exact
 
 pub returns-in-Err-Unexpected-clause-read : goal.returns-in-Err-Unexpected-clause-read
 returns-in-Err-Unexpected-clause-read c =
