@@ -1,5 +1,5 @@
 -- What is answered over the table that is made.
-use Rattle.std.proofs.Common.{◌≡◌, ℕ, List, [], ◌∷◌, Bool, Option, Some, None, Result, Ok, Err, IfOk, IfErr, refl, sym, subst, ap, ◌∙◌, arith}
+use Rattle.std.proofs.Common.{◌≡◌, ℕ, List, [], ◌∷◌, Bool, All, Option, Some, None, Result, Ok, Err, IfOk, IfErr, refl, sym, subst, ap, ◌∙◌, arith}
 use Rattle.std.specs.List.{IsDistinct}
 use Rattle.std.proofs.lemmas.List.Elements.{All-nil, All-cons}
 use Rattle.esql_io.specs.Files.{Held}
@@ -8,7 +8,9 @@ use Rattle.esql_types.specs.declared.places.Span.{Span}
 use Rattle.esql_types.specs.declared.names.Column.{Column}
 use Rattle.esql_ast.specs.declared.query.Query.{Query}
 use Rattle.esql_plan.specs.declared.catalog.Catalog.{Catalog}
+use Rattle.esql_plan.specs.declared.catalog.PolicyShape.{PolicyShape}
 use Rattle.esql_plan.specs.declared.catalog.TableShape.{TableShape}
+use Rattle.plan_semantics.specs.WellFormed.{IsPolicyTable}
 use Rattle.row_semantics.specs.declared.rule.NameRule.TheVariants.{BadRegex}
 use Rattle.row_semantics.specs.Columns.{HaveDistinctNames}
 use Rattle.row_semantics.specs.Regulars.{Regular, is_accepted}
@@ -42,6 +44,7 @@ unfolding IsDistinct
 catalog_is_one catalog is = subst IsCatalog (sym is) (record {
   tables = (tt, tt);
   columns = All-cons (λ (table : TableShape). HaveDistinctNames table.columns) generated_shape [] names_differ (All-nil (λ (table : TableShape). HaveDistinctNames table.columns));
+  policies = All-nil (λ (policy : PolicyShape). All (IsPolicyTable generated_catalog policy) policy.tables);
   few = omega arith;
 })
 

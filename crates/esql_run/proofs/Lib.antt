@@ -6,6 +6,7 @@ mod Generations
 mod Judged
 mod OneOutcome
 mod OneTables
+mod ShownMeanings
 mod Somewhere
 mod Stops
 mod TableKinds

@@ -9,11 +9,12 @@ use Rattle.esql_types.specs.declared.value.Value.TheVariants.{Int, Long, Bool as
 use Rattle.esql_types.specs.declared.names.Column.{Column}
 use Rattle.esql_types.specs.Values.{kind_of_value}
 use Rattle.esql_plan.specs.declared.catalog.Catalog.{Catalog}
+use Rattle.esql_plan.specs.declared.catalog.TableShape.{TableShape}
 use Rattle.esql_plan.specs.Signatures.{same_kind}
 use Rattle.esql_plan.specs.Fits.{has_kind}
 use Rattle.plan_semantics.specs.Tables.{catalog_tables}
 use Rattle.plan_semantics.specs.WellFormed.{IsTable, AreTables}
-use Rattle.plan_rows.specs.Held.{tables_held}
+use Rattle.plan_rows.specs.Held.{shapes_held, tables_held}
 use Rattle.ndjson_load.specs.declared.column.MappedColumn.{MappedColumn}
 use Rattle.ndjson_load.specs.Shapes.{is_of_kind, IsLoadable, IsRowOf}
 use Rattle.table_files.specs.declared.tables.FoundTable.{FoundTable}
@@ -67,18 +68,18 @@ table_kinds : (source : FoundTable) (rows : Rows) → LoadsAll source → IsTabl
 table_kinds source rows loadable is =
     All-weaker (IsRowOf source.columns) (λ (row : List (List Value)). AllZip HasKindOf (columns_of source.columns) row) (λ row. row_kinds source.columns row) rows (is.kinds loadable)
 
-shapes_same : (sources : List FoundTable) (tables : List Rows) → AllZip IsTableOf sources tables → (catalog_of sources).tables ≡ catalog_tables (tables_held (catalog_of sources) tables)
+shapes_same : (sources : List FoundTable) (tables : List Rows) → AllZip IsTableOf sources tables → (catalog_of sources).tables ≡ catalog_tables (shapes_held (catalog_of sources).tables tables)
 shapes_same [] [] all = refl
 shapes_same [] (rows ∷ tables) all = absurd all
 shapes_same (source ∷ sources) [] all = absurd all
 shapes_same (source ∷ sources) (rows ∷ tables) all = ap (λ shapes. shape_of source ∷ shapes) (shapes_same sources tables all.1)
 
-held_kinds : (sources : List FoundTable) (tables : List Rows) → All LoadsAll sources → AllZip IsTableOf sources tables → All IsTable (tables_held (catalog_of sources) tables)
+held_kinds : (sources : List FoundTable) (tables : List Rows) → All LoadsAll sources → AllZip IsTableOf sources tables → All IsTable (shapes_held (catalog_of sources).tables tables)
 held_kinds [] [] loadable all = All-nil IsTable
 held_kinds [] (rows ∷ tables) loadable all = absurd all
 held_kinds (source ∷ sources) [] loadable all = absurd all
 held_kinds (source ∷ sources) (rows ∷ tables) loadable all =
-    All-cons IsTable (record { shape = shape_of source; rows = rows }) (tables_held (catalog_of sources) tables)
+    All-cons IsTable (record { shape = shape_of source; rows = rows }) (shapes_held (catalog_of sources).tables tables)
     (table_kinds source rows (All-head LoadsAll source sources loadable) all.0) (held_kinds sources tables (All-tail LoadsAll source sources loadable) all.1)
 
 pub are_tables : (catalog : Catalog) (sources : List FoundTable) (tables slice : List Rows) → catalog ≡ catalog_of sources → slice ≡ tables → All (λ (source : FoundTable). All IsLoadable source.columns) sources
@@ -86,4 +87,4 @@ pub are_tables : (catalog : Catalog) (sources : List FoundTable) (tables slice :
 are_tables catalog sources tables slice is same loadable all =
     subst (λ (c : Catalog). AreTables c (tables_held c slice)) (sym is)
     (subst (λ (ts : List Rows). AreTables (catalog_of sources) (tables_held (catalog_of sources) ts)) (sym same)
-    (record { shapes = shapes_same sources tables all; kinds = held_kinds sources tables loadable all }))
+    (record { shapes = ap (λ (shapes : List TableShape). record { tables = shapes; policies = [] }) (shapes_same sources tables all); kinds = held_kinds sources tables loadable all }))

@@ -6,6 +6,7 @@ use Rattle.answer_text.specs.Refusals.{refusal_line}
 use Rattle.answer_text.specs.declared.refusals.Refusal.{Refusal}
 use Rattle.answer_text.specs.declared.refusals.Refusal.TheVariants as refusal
 use Rattle.esql_plan.specs.declared.catalog.Catalog.{Catalog}
+use Rattle.plan_semantics.specs.Tables.{CatalogHeld}
 use Rattle.row_semantics.specs.declared.rule.NameRule.TheVariants.{BadRegex}
 use Rattle.query_semantics.specs.Shapes.{Shape, shape_of, shape_in}
 use Rattle.expression_analysis.specs.declared.error.AnalyzeError.TheVariants.{PatternRoom as StoppedByRoom}
@@ -25,6 +26,10 @@ use Rattle.esql_run.specs.Tables.{refusal_of, meant}
 abbrev pub generated_catalog : Catalog
 generated_catalog = record { tables = generated_shape ∷ []; policies = [] }
 
+-- with its rows
+abbrev pub generated_held : ℕ → ℕ → CatalogHeld
+generated_held seed rows = record { tables = generated_table seed rows ∷ []; policies = [] }
+
 -- a line behind the output
 abbrev pub with_line : List ℕ → Outcome → Outcome
 with_line line outcome = record { status = outcome.status; out = outcome.out ++ line; err = outcome.err }
@@ -33,7 +38,7 @@ with_line line outcome = record { status = outcome.status; out = outcome.out ++ 
 abbrev pub answered_for : Shape → Generation → List ℕ → Query → Outcome
 answered_for (Err first) generation text query = refused text (refusal_of first.rule) first.span
 answered_for (Ok columns) generation text query =
-    with_line (generated_line generation.seed generation.rows) (meant generation.format text query columns (generated_table generation.seed generation.rows ∷ []))
+    with_line (generated_line generation.seed generation.rows) (meant generation.format text query columns (generated_held generation.seed generation.rows))
 
 -- the first command that is not built is refused; where each is built the query is judged by the columns of the table
 abbrev pub generated_by : Option Span → Generation → List ℕ → Query → Outcome

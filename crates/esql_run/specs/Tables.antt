@@ -10,7 +10,7 @@ use Rattle.table_files.specs.declared.tables.FoundTable.{FoundTable}
 use Rattle.table_files.specs.Catalog.{Rows, Halt, unknown, bad, Gathers, Loads}
 use Rattle.table_files.specs.Catalogs.{catalog_of}
 use Rattle.table_files.specs.Uses.{table_names}
-use Rattle.plan_semantics.specs.Tables.{TableHeld}
+use Rattle.plan_semantics.specs.Tables.{CatalogHeld}
 use Rattle.plan_rows.specs.Held.{tables_held}
 use Rattle.row_semantics.specs.declared.rule.NameRule.{NameRule}
 use Rattle.row_semantics.specs.declared.rule.NameRule.TheVariants as rule
@@ -48,12 +48,12 @@ refusal_of rule.BadGrok = refusal.BadGrok
 refusal_of rule.BadRegex = refusal.BadRegex
 refusal_of rule.EmptyResultColumns = refusal.EmptyResultColumns
 
--- the table that the query means over tables, in a format, and its warnings
-abbrev pub meant : Format → List ℕ → Query → List Column → List TableHeld → Outcome
-meant format text query columns tables = record {
+-- the table that the query means over a catalog with its rows, in a format, and its warnings
+abbrev pub meant : Format → List ℕ → Query → List Column → CatalogHeld → Outcome
+meant format text query columns held = record {
   status = Done;
-  out = shown format columns (map cells_of (meaning_of text tables query).rows);
-  err = warned text (warned_nodes_of query) (meaning_of text tables query).failures;
+  out = shown format columns (map cells_of (meaning_of text held query).rows);
+  err = warned text (warned_nodes_of query) (meaning_of text held query).failures;
 }
 
 -- The tables are found by their names, in the folder where one is named; then the query is judged by their columns; then their rows are

@@ -3,6 +3,7 @@ ghost use Rattle.std.specs.Prelude.{◌≡◌, ◌≤◌, map, Some, IfOk};
 ghost use Rattle.std.specs.String.{string_bytes};
 ghost use Rattle.esql_ast.specs.Fits.{QueryFits};
 ghost use Rattle.esql_ast.specs.Laws.{IsNumbered};
+ghost use Rattle.query_semantics.specs.Sizes.{IsShortQuery};
 ghost use Rattle.esql_run.specs.Answers.{IsTold};
 ghost use Rattle.esql_run.specs.Made.{outcome_made};
 ghost use Rattle.esql_run.specs.Outcome.{AnswersOptions, AnswersQuery, AsksFile, AsksForQuery, IsAnswer, IsFileFor, IsOutcome, OptionsAskFile, wrong_words};
@@ -106,6 +107,7 @@ fn answer_query<F: Files, M: Maker>(
     requires fits { QueryFits text.now query.now }
     requires numbered { IsNumbered query.now }
     requires few { query.now.nodes ≤ 65537 }
+    requires short { IsShortQuery query.now }
     ensures told { IfOk result (λ answer. AnswersQuery options.now.folder options.now.format text.now (F.holds files.old) query.now (outcome_made answer)) }
     ensures status { IfOk result (λ answer. IsTold answer.status) }
     ensures called { CalledToAnswer F.holds F.faults F.failed (AsksForQuery options.now.folder text.now (F.holds files.old) query.now) result files.old files.new }

@@ -4,6 +4,7 @@ ghost use Rattle.esql_ast.specs.Fits.{QueryFits};
 ghost use Rattle.esql_ast.specs.Laws.{IsNumbered};
 ghost use Rattle.plan_semantics.specs.Plans.{columns_of};
 ghost use Rattle.query_semantics.specs.Shapes.{shape_of};
+ghost use Rattle.query_semantics.specs.Sizes.{IsShortQuery};
 ghost use Rattle.esql_answer.specs.Prepared.{MeansQuery};
 ghost use Rattle.table_generator.specs.Words.{generated_query};
 ghost use Rattle.esql_run.specs.Answers.{IsTold};
@@ -64,6 +65,7 @@ fn answer_query<M: Maker>(
     requires fits { QueryFits text.now query.now }
     requires numbered { IsNumbered query.now }
     requires few { query.now.nodes ≤ 65537 }
+    requires short { IsShortQuery query.now }
     ensures told { IfOk result (λ answer. outcome_made answer ≡ generated_by (unbuilt_of query.now) generation text.now query.now) }
     ensures status { IfOk result (λ answer. IsTold answer.status) }
     ensures made { MadeToAnswer M.refused (IsRoomOver M.refused M.last text.now query.now) result maker.old maker.new }
@@ -85,6 +87,7 @@ fn answer_built<M: Maker>(
     requires fits { QueryFits text.now query.now }
     requires numbered { IsNumbered query.now }
     requires few { query.now.nodes ≤ 65537 }
+    requires short { IsShortQuery query.now }
     requires built { unbuilt_of query.now ≡ None }
     ensures told { IfOk result (λ answer. outcome_made answer ≡ answered_for (shape_of text.now generated_catalog query.now) generation text.now query.now) }
     ensures status { IfOk result (λ answer. IsTold answer.status) }

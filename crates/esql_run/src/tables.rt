@@ -16,6 +16,7 @@ ghost use Rattle.plan_semantics.specs.WellFormed.{AreTables};
 ghost use Rattle.plan_rows.specs.Held.{tables_held};
 ghost use Rattle.query_semantics.specs.Catalogs.{IsCatalog};
 ghost use Rattle.query_semantics.specs.Shapes.{shape_of};
+ghost use Rattle.query_semantics.specs.Sizes.{IsShortQuery};
 ghost use Rattle.esql_answer.specs.Prepared.{MeansQuery};
 ghost use Rattle.esql_run.specs.Answers.{IsTold};
 ghost use Rattle.esql_run.specs.Built.{unbuilt_of};
@@ -53,6 +54,7 @@ pub(crate) fn answer_tables<F: Files, M: Maker>(
     requires fits { QueryFits text.now query.now }
     requires numbered { IsNumbered query.now }
     requires few { query.now.nodes ≤ 65537 }
+    requires short { IsShortQuery query.now }
     requires built { unbuilt_of query.now ≡ None }
     ensures told { IfOk result (λ answer. AnswersTables options.now.folder options.now.format text.now (F.holds files.old) query.now (outcome_made answer)) }
     ensures status { IfOk result (λ answer. IsTold answer.status) }
@@ -103,6 +105,7 @@ fn answer_gathered<F: Files, M: Maker>(
     requires fits { QueryFits text.now query.now }
     requires numbered { IsNumbered query.now }
     requires few { query.now.nodes ≤ 65537 }
+    requires short { IsShortQuery query.now }
     requires built { unbuilt_of query.now ≡ None }
     requires gathered { IsGathered options.now.folder (F.holds files.old) query.now gathered }
     requires somewhere { Over (F.holds files.old) (λ bytes_of. Gathers options.now.folder (Some bytes_of) 0 (table_names query.now) (Ok (tables_of query.now gathered))) }

@@ -88,7 +88,7 @@ struct Case {
 
 const HEAD: &str = "failed, treating result as null. Only first 20 failures recorded.";
 
-const CASES: [Case; 13] = [
+const CASES: [Case; 15] = [
     Case {
         query: "ROW a = 1 | EVAL b = a + 2",
         status: Status::Done,
@@ -132,10 +132,22 @@ const CASES: [Case; 13] = [
         err: "line 1:20: no columns are left\n",
     },
     Case {
-        query: "FROM u | DISSECT a \"%{b}\"",
+        query: "FROM u | LOOKUP JOIN t ON a",
         status: Status::Refused,
         out: "",
         err: "line 1:10: command not built\n",
+    },
+    Case {
+        query: "ROW s = \"a b\" | DISSECT s \"%{x} %{y}\"",
+        status: Status::Done,
+        out: "s   | x | y\n----+---+--\na b | a | b\n",
+        err: "",
+    },
+    Case {
+        query: "ROW s = \"n 12\" | GROK s \"%{WORD:w} %{INT:n:int}\"",
+        status: Status::Done,
+        out: "s    | w | n\n-----+---+---\nn 12 | n | 12\n",
+        err: "",
     },
     Case {
         query: "FROM u | EVAL x = ",

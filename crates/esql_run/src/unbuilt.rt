@@ -34,8 +34,8 @@ fn is_built_kind(kind: &CommandKind) -> bool
         CommandKind::Limit { .. } => true,
         CommandKind::Expand { .. } => true,
         CommandKind::Stats { .. } => true,
-        CommandKind::Dissect { .. } => false,
-        CommandKind::Grok { .. } => false,
+        CommandKind::Dissect { .. } => true,
+        CommandKind::Grok { .. } => true,
         CommandKind::Enrich { .. } => false,
         CommandKind::Join { .. } => false,
     }
