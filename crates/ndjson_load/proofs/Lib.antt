@@ -7,8 +7,8 @@ mod Takings
 mod Cuts
 mod Loads
 mod Shaped
-mod Loadable
+pub mod Loadable
 mod LineLaws
 mod Sorted
-mod OneMapping
+pub mod OneMapping
 mod Overs

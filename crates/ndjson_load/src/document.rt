@@ -7,7 +7,7 @@ use serde_json::{Category, Value as Json};
 use std::alloc::{AllocError, Global};
 
 /// The JSON value that bytes spell, or `None` where they spell none.
-pub(crate) fn read_document(alloc: Global, bytes: &[u8]) -> Result<Option<Json>, AllocError>
+pub fn read_document(alloc: Global, bytes: &[u8]) -> Result<Option<Json>, AllocError>
     ensures { IfOk result (λ json. option_map view json ≡ document_of bytes.now) }
 {
     match Json::from_slice(alloc, bytes) {

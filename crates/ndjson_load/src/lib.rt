@@ -18,6 +18,7 @@ mod whole;
 
 pub use cause::{LoadError, MappingCause, MappingError, RowCause};
 pub use column::MappedColumn;
+pub use document::read_document;
 pub use laws::{no_mapping_fault, one_mapping, one_mapping_fault};
 pub use mapping::read_mapping;
 pub use table::{Table, load_table};
