@@ -12,11 +12,5 @@ pub mod NodesFit
 pub mod WarnedFit
 pub mod DepthParts
 pub mod KeepsDepth
-pub mod NameTails
-pub mod NameRuns
-pub mod NameStood
-pub mod NamePlaces
-pub mod NameLasts
-pub mod Winners
-pub mod KeptOnce
-pub mod RenamedDiffer
+pub mod UsesFirst
+pub mod Bared

@@ -1,43 +1,26 @@
-//! Laws of the numbers, the spans and the depth of a query.
+//! Laws of the numbers, the spans, the depth and the names of a query.
 
 ghost use Rattle.std.specs.Prelude.{◌≡◌, ℕ, List, All};
 ghost use Rattle.esql_types.specs.Spans.{SpanFits};
 ghost use Rattle.esql_ast.specs.declared.query.Command.{Command};
 ghost use Rattle.esql_ast.specs.declared.query.Query.{Query};
 ghost use Rattle.esql_ast.specs.declared.query.SourceCommand.{SourceCommand};
+ghost use Rattle.esql_ast.specs.Bare.{bare_query};
 ghost use Rattle.esql_ast.specs.Depths.{depth_of_query};
 ghost use Rattle.esql_ast.specs.Fits.{QueryFits};
 ghost use Rattle.esql_ast.specs.Nodes.{warned_nodes_of};
 ghost use Rattle.esql_ast.specs.Numbering.{numbered_query};
-ghost use Rattle.esql_ast.specs.declared.query.NamePattern.{NamePattern};
-ghost use Rattle.esql_ast.specs.declared.query.RenamePair.{RenamePair};
-ghost use Rattle.esql_ast.specs.NameLaws.{KeptAreWon, KeptOnce, KeptDiffer, RenamedDiffer};
 ghost use Rattle.esql_ast.specs.Laws.{as_it_was, spans_of, IsNumbered};
-
-/// A law: each place that KEEP leaves is that of a column that a pattern wins: no pattern of a higher rank meets the column, and
-/// none of the same rank to its right.
-pub fn kept_are_won()
-    ensures { (names : List (List ℕ)) (patterns : List NamePattern) → KeptAreWon names patterns }
-{}
-
-/// A law: KEEP leaves each column that some pattern meets once, and no other.
-pub fn kept_once()
-    ensures { (names : List (List ℕ)) (patterns : List NamePattern) → KeptOnce names patterns }
-{}
-
-/// A law: the places that KEEP leaves differ.
-pub fn kept_differ()
-    ensures { (names : List (List ℕ)) (patterns : List NamePattern) → KeptDiffer names patterns }
-{}
-
-/// A law: where the names of columns differ, the names that RENAME leaves do.
-pub fn renamed_differ()
-    ensures { (names : List (List ℕ)) (pairs : List RenamePair) → RenamedDiffer names pairs }
-{}
+ghost use Rattle.esql_ast.specs.UseLaws.{MentionedAreUsed, UsesAreFirst, UsesDiffer};
 
 /// A law: the nodes of a numbered query have the numbers from 0 in written order, and it has as many nodes as it says.
 pub fn numbers_in_order()
     ensures { (source : SourceCommand) (commands : List Command) → IsNumbered (numbered_query source commands) }
+{}
+
+/// A law: a numbered query without its numbers is the query as it was without its numbers.
+pub fn numbering_keeps_all()
+    ensures { (source : SourceCommand) (commands : List Command) → bare_query (numbered_query source commands) ≡ bare_query (as_it_was source commands) }
 {}
 
 /// A law: a numbered query's nodes stand where they stood, in the same order.
@@ -58,4 +41,19 @@ pub fn numbering_keeps_depth()
 /// A law: where the spans of a query are parts of its text, so are the places where its failures are said to be.
 pub fn warned_places_fit()
     ensures { (text : List ℕ) (query : Query) → QueryFits text query → All (λ place. SpanFits text place.span) (warned_nodes_of query) }
+{}
+
+/// A law: no table and no policy is used twice.
+pub fn uses_differ()
+    ensures { (query : Query) → UsesDiffer query }
+{}
+
+/// A law: each table and policy that a query mentions is used.
+pub fn mentioned_are_used()
+    ensures { (query : Query) → MentionedAreUsed query }
+{}
+
+/// A law: each table and policy is used where it is mentioned first.
+pub fn uses_are_first()
+    ensures { (query : Query) → UsesAreFirst query }
 {}

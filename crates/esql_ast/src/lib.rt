@@ -2,29 +2,21 @@
 #![tactic(auto)]
 
 mod expr;
-mod kept;
 mod laws;
-mod like;
-mod names;
 mod nodes;
 mod numbering;
 mod query;
 #[cfg(test)]
 mod tests;
 #[cfg(test)]
-mod tests_names;
-#[cfg(test)]
 mod tests_uses;
 mod uses;
 
 pub use expr::{BinaryOp, Expr, Form};
-pub use kept::{NameError, drop_names, keep_order};
 pub use laws::{
-    kept_are_won, kept_differ, kept_once, numbering_keeps_depth, numbering_keeps_fit,
-    numbering_keeps_spans, numbers_in_order, renamed_differ, warned_places_fit,
+    mentioned_are_used, numbering_keeps_all, numbering_keeps_depth, numbering_keeps_fit,
+    numbering_keeps_spans, numbers_in_order, uses_are_first, uses_differ, warned_places_fit,
 };
-pub use like::like_name;
-pub use names::{RenameError, Renamed, rename_pairs};
 pub use nodes::{NodeAt, warned_nodes_of};
 pub use numbering::numbered_query;
 pub use query::{

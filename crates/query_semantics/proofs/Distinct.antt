@@ -4,7 +4,7 @@ use Rattle.std.specs.List.{AllByRecursion, IsDistinct, flat_map, list_any, range
 use Rattle.std.specs.Str.{bytes_eq}
 use Rattle.std.specs.Cmp.Lexicographic.{bytes_decides, nat_list_eq_equiv}
 use Rattle.std.proofs.lemmas.Map.Keys.{IsDistinct-push}
-use Rattle.esql_ast.specs.NameRules.{is_place}
+use Rattle.name_rules.specs.NameRules.{is_place}
 
 -- what holds of each -------------------------------------------------------------------------------------------------
 

@@ -8,7 +8,7 @@ use Rattle.esql_types.specs.declared.value.Kind.{Kind}
 use Rattle.esql_types.specs.declared.names.Column.{Column}
 use Rattle.esql_ast.specs.declared.query.NamePattern.{NamePattern}
 use Rattle.esql_ast.specs.declared.query.RenamePair.{RenamePair}
-use Rattle.esql_ast.specs.NameRules.{Renaming, keep_places, drop_places, at_places, renamings, renamed_by}
+use Rattle.name_rules.specs.NameRules.{Renaming, keep_places, drop_places, at_places, renamings, renamed_by}
 use Rattle.esql_plan.specs.declared.plan.OutColumn.{OutColumn}
 use Rattle.esql_plan.specs.Values.{NumberedRow}
 use Rattle.plan_semantics.specs.Tables.{with_cell}

@@ -26,7 +26,7 @@ use Rattle.esql_ast.specs.declared.query.SourceCommand.TheVariants.{Tables, OneR
 use Rattle.esql_ast.specs.declared.expr.Expr.{Expr}
 use Rattle.esql_ast.specs.Fits.{ExprFits, NameFits, PatternFits, PairFits, FieldFits, FieldsFit, ConditionFits, StatsFits, KeyFits, KindFits, SourceFits, QueryFits}
 use Rattle.esql_ast.specs.Nodes.{nodes_of_kind, nodes_of_command, nodes_of_source}
-use Rattle.esql_ast.specs.NameRules.{is_unmet, first_missing_of, is_there, with_pair, placed}
+use Rattle.name_rules.specs.NameRules.{is_unmet, first_missing_of, is_there, with_pair, placed}
 use Rattle.esql_ast.proofs.PartsFit.{own_span_fits}
 use Rattle.esql_plan.specs.declared.catalog.TableShape.{TableShape}
 use Rattle.esql_plan.specs.Signatures.{is_kind}

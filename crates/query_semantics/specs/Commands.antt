@@ -16,7 +16,7 @@ use Rattle.esql_ast.specs.declared.query.RenamePair.{RenamePair}
 use Rattle.esql_ast.specs.declared.query.Command.{Command}
 use Rattle.esql_ast.specs.declared.query.CommandKind.{CommandKind}
 use Rattle.esql_ast.specs.declared.query.CommandKind.TheVariants.{Filter, Eval, Keep, Drop, Rename, Sort, Limit, Expand, Stats, Dissect, Grok, Enrich, Join}
-use Rattle.esql_ast.specs.NameRules.{keep_places, drop_places, at_places, renamings, renamed_by}
+use Rattle.name_rules.specs.NameRules.{keep_places, drop_places, at_places, renamings, renamed_by}
 use Rattle.function_rules.specs.Lists.{sorted_by}
 use Rattle.plan_semantics.specs.Orders.{order_of_cells}
 use Rattle.plan_semantics.specs.Tables.{CatalogHeld}

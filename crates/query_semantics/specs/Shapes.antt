@@ -15,7 +15,7 @@ use Rattle.esql_ast.specs.declared.query.CommandKind.{CommandKind}
 use Rattle.esql_ast.specs.declared.query.CommandKind.TheVariants.{Filter, Eval, Keep, Drop, Rename, Sort, Limit, Expand, Stats, Dissect, Grok, Enrich, Join}
 use Rattle.esql_ast.specs.declared.query.SourceCommand.{SourceCommand}
 use Rattle.esql_ast.specs.declared.query.SourceCommand.TheVariants.{Tables, OneRow}
-use Rattle.esql_ast.specs.NameRules.{first_unmet, keep_places, drop_places, at_places, first_missing, renamings, renamed_by}
+use Rattle.name_rules.specs.NameRules.{first_unmet, keep_places, drop_places, at_places, first_missing, renamings, renamed_by}
 use Rattle.esql_plan.specs.declared.catalog.Catalog.{Catalog}
 use Rattle.esql_plan.specs.Signatures.{is_kind}
 use Rattle.row_semantics.specs.declared.rule.NameRule.TheVariants as rule

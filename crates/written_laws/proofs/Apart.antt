@@ -11,7 +11,7 @@ use Rattle.esql_ast.specs.declared.query.CommandKind.{CommandKind}
 use Rattle.esql_ast.specs.declared.query.CommandKind.TheVariants.{Filter, Eval, Keep, Drop, Rename, Sort, Limit, Expand, Stats, Dissect, Grok, Enrich, Join}
 use Rattle.esql_ast.specs.declared.query.SourceCommand.{SourceCommand}
 use Rattle.esql_ast.specs.declared.query.SourceCommand.TheVariants.{Tables, OneRow}
-use Rattle.esql_ast.specs.NameRules.{first_unmet, first_missing}
+use Rattle.name_rules.specs.NameRules.{first_unmet, first_missing}
 use Rattle.esql_plan.specs.declared.catalog.Catalog.{Catalog}
 use Rattle.plan_semantics.specs.Taken.{columns_of_reading, columns_of_grok}
 use Rattle.row_semantics.specs.Fields.{name_of_field}

@@ -9,7 +9,7 @@ use Rattle.std.proofs.lemmas.List.Elements.{filter_map-append}
 use Rattle.esql_types.specs.declared.names.Column.{Column}
 use Rattle.esql_ast.specs.declared.query.NamePattern.{NamePattern}
 use Rattle.esql_ast.specs.declared.query.RenamePair.{RenamePair}
-use Rattle.esql_ast.specs.NameRules.{Renaming, placed_from, placed, places_where, winner, wins, keep_places, is_met, drop_places, at_places, stays, with_new_name, rename_pair, is_there, with_pair, renamings, renamed_by}
+use Rattle.name_rules.specs.NameRules.{Renaming, placed_from, placed, places_where, winner, wins, keep_places, is_met, drop_places, at_places, stays, with_new_name, rename_pair, is_there, with_pair, renamings, renamed_by}
 use Rattle.row_semantics.specs.Columns.{names_of, HaveDistinctNames, column_as}
 use Rattle.query_semantics.proofs.Squares.{flat_map_same, at_places-map}
 use Rattle.query_semantics.proofs.Distinct.{AreDistinct, IsOther, distinct_head, distinct_tail, distinct_cons, distinct_filter, distinct_won}

@@ -16,7 +16,7 @@ use Rattle.esql_ast.specs.declared.query.CommandKind.{CommandKind}
 use Rattle.esql_ast.specs.declared.query.CommandKind.TheVariants.{Filter, Eval, Keep, Drop, Rename, Sort, Limit, Expand, Stats, Dissect, Grok, Enrich, Join}
 use Rattle.esql_ast.specs.declared.query.SourceCommand.{SourceCommand}
 use Rattle.esql_ast.specs.declared.query.SourceCommand.TheVariants.{Tables, OneRow}
-use Rattle.esql_ast.specs.NameRules.{first_unmet, first_missing, keep_places, drop_places, at_places, renamings, renamed_by}
+use Rattle.name_rules.specs.NameRules.{first_unmet, first_missing, keep_places, drop_places, at_places, renamings, renamed_by}
 use Rattle.esql_plan.specs.declared.plan.OutColumn.{OutColumn}
 use Rattle.esql_plan.specs.Signatures.{is_kind}
 use Rattle.dissect_grok.specs.Patterns.{Reading}

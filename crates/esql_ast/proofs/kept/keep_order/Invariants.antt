@@ -1,8 +1,0 @@
-use Rattle.std.proofs.Common.{◌≡◌, map}
-use Rattle.std.specs.List.{flat_map, range_with_len}
-use Rattle.esql_ast.specs.NameRules.{winner, is_place}
-use Rattle.esql_ast.specs.NamePlaces.{places_from}
-use Rattle.esql_ast.proofs.kept.keep_order.Given as goal
-
-abbrev pub invariant-loop-winning : goal.invariant-loop-winning
-invariant-loop-winning l = l.places ≡ flat_map (λ place. places_from (is_place place) 0 (map (winner l.fn.patterns) l.fn.names)) (range_with_len 0 l.winning)

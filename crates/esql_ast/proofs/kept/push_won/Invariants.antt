@@ -1,7 +1,0 @@
-use Rattle.std.proofs.Common.{◌≡◌, ◌++◌, take}
-use Rattle.esql_ast.specs.NameRules.{is_place}
-use Rattle.esql_ast.specs.NamePlaces.{places_from}
-use Rattle.esql_ast.proofs.kept.push_won.Given as goal
-
-abbrev pub invariant-loop-one : goal.invariant-loop-one
-invariant-loop-one l = (l.place ≡ l.one-index) × (l.places ≡ l.fn.places ++ places_from (is_place l.winning) 0 (take l.one-index l.won))

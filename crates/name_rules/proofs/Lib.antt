@@ -1,0 +1,11 @@
+pub mod NameTails
+pub mod NameRuns
+pub mod NameStood
+pub mod NamePlaces
+pub mod NameLasts
+pub mod Winners
+pub mod KeptOnce
+pub mod RenamedDiffer
+pub mod RenamePlaces
+pub mod RenameSteps
+pub mod RenameBegins
