@@ -13,3 +13,4 @@ pub mod Sizes
 pub mod Sound
 pub mod Steps
 pub mod Viable
+pub mod Deep

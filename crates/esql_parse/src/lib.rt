@@ -11,6 +11,6 @@ mod tests;
 mod written;
 
 pub use error::ParseError;
-pub use laws::{no_refusal, one_query, one_refusal};
+pub use laws::{deep_are_fronts, no_refusal, one_query, one_refusal};
 pub use reading::parse;
 pub use state::{Inside, Progress, State, Written};
