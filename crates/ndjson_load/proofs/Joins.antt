@@ -22,7 +22,7 @@ joined-assoc (Ok front) (Err fault) c = refl
 joined-assoc (Ok front) (Ok middle) (Err fault) = refl
 joined-assoc (Ok front) (Ok middle) (Ok back) = ap Ok (append_assoc front middle back)
 
-joined-none : {Y E : Type 0} (part : Result (List Y) E) → part ≡ joined (Ok []) part
+pub joined-none : {Y E : Type 0} (part : Result (List Y) E) → part ≡ joined (Ok []) part
 joined-none (Err fault) = refl
 joined-none (Ok list) = refl
 

@@ -1,4 +1,9 @@
 mod Wholes
+mod Bounds
+mod Places
+mod Rises
+mod Walked
+mod Spreads
 mod Documented
 mod Members
 mod Joins
@@ -8,7 +13,6 @@ mod Cuts
 mod Loads
 mod Shaped
 pub mod Loadable
-mod LineLaws
 mod Sorted
 pub mod OneMapping
 mod Overs

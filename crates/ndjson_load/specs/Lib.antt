@@ -8,4 +8,5 @@ pub mod Mappings
 pub mod Over
 pub mod Rows
 pub mod Shapes
+pub mod Spreading
 pub mod Whole

@@ -9,6 +9,8 @@ mod laws;
 mod leaf;
 mod lines;
 mod mapping;
+mod reach;
+mod spread;
 mod table;
 mod take;
 #[cfg(test)]

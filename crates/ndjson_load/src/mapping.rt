@@ -72,7 +72,7 @@ fn sort_by_name(columns: &mut Vec<MappedColumn>)
     columns.sort_unstable_by(|left, right| compare_names(left, right));
 }
 
-fn compare_names(left: &MappedColumn, right: &MappedColumn) -> Ordering
+pub(crate) fn compare_names(left: &MappedColumn, right: &MappedColumn) -> Ordering
     ensures { result ≡ slice_cmp nat_cmp left.now.column.name right.now.column.name }
 {
     left.column.name.as_str().cmp(right.column.name.as_str())

@@ -1,5 +1,5 @@
 //! Tables: the rows of a file.
-ghost use Rattle.std.specs.Prelude.{◌≡◌, ◌≤◌, ◌<◌, ◌∷◌, [], None, Some, Ok, Err, List, length, slice_get, option_and_then, IfOk, IfErr, IfSome, IsSome, IsSomeAnd, OnOk, All};
+ghost use Rattle.std.specs.Prelude.{◌≡◌, ◌≤◌, ◌<◌, ◌∷◌, [], replicate, true, None, Some, Ok, Err, List, length, slice_get, option_and_then, IfOk, IfErr, IfSome, IsSome, IsSomeAnd, OnOk, All};
 ghost use Rattle.std.specs.Option.{option_copied};
 ghost use Rattle.serde_json.specs.View.{view};
 ghost use Rattle.ndjson_load.specs.Called.{CalledToLoad};
@@ -8,10 +8,13 @@ ghost use Rattle.ndjson_load.specs.Joining.{after};
 ghost use Rattle.ndjson_load.specs.Rows.{cell_of, cells_of, row_of, line_rows, table_of};
 ghost use Rattle.ndjson_load.specs.Loading.{Loads, IfBadRow, IfRowFault, IsLoaded};
 ghost use Rattle.ndjson_load.specs.Over.{Over};
-ghost use Rattle.ndjson_load.specs.Shapes.{IsLoadable, IsRowOf};
+ghost use Rattle.ndjson_load.specs.Shapes.{IsLoadable, IsRowOf, NamesRise};
 
 use crate::document::read_document;
 use crate::lines::{cut_line, is_blank, without_return};
+use crate::mapping::compare_names;
+use crate::reach::Reach;
+use crate::spread::spread;
 use crate::take::{TakeError, take};
 use crate::{LoadError, MAX_FILE, MappedColumn, ReadError, RowCause, read_whole};
 use esql_io::Files;
@@ -124,13 +127,28 @@ pub(crate) fn read_rows(
     let mut rows = Seq::new(alloc);
     let mut rest = bytes;
     let mut number = 0;
+    let rise = names_rise(columns);
     'lines: while !rest.is_empty() {
         let (line, after) = cut_line(rest);
         number += 1;
-        add_line(alloc, without_return(line), number, columns, &mut rows)?;
+        add_line(
+            alloc,
+            without_return(line),
+            number,
+            columns,
+            rise,
+            &mut rows,
+        )?;
         rest = after;
     }
     Ok(Table { rows })
+}
+
+/// Whether the names of columns rise in byte order, each below the next.
+fn names_rise(columns: &[MappedColumn]) -> bool
+    ensures { result ≡ true → NamesRise columns.now }
+{
+    columns.is_sorted_by(|left, right| compare_names(left, right).is_lt())
 }
 
 /// Adds the row of a line, unless it is blank.
@@ -139,14 +157,16 @@ fn add_line(
     line: &[u8],
     number: u64,
     columns: &[MappedColumn],
+    rise: bool,
     rows: &mut Seq<Seq<Cell>>,
 ) -> Result<(), LoadError>
+    requires { rise ≡ true → NamesRise columns.now }
     ensures { Loads (after rows.old (line_rows columns.now (number, line.now))) result rows.new }
 {
     if is_blank(line) {
         return Ok(());
     }
-    let row = read_row(alloc, line, number, columns)?;
+    let row = read_row(alloc, line, number, columns, rise)?;
     rows.push(row)?;
     Ok(())
 }
@@ -156,7 +176,9 @@ fn read_row(
     line: &[u8],
     number: u64,
     columns: &[MappedColumn],
+    rise: bool,
 ) -> Result<Seq<Cell>, LoadError>
+    requires { rise ≡ true → NamesRise columns.now }
     ensures ok { IfOk result (λ row. row_of number columns.now (document_of line.now) ≡ Ok (row ∷ [])) }
     ensures bad { IfErr result (λ error. IfBadRow error (λ bad. row_of number columns.now (document_of line.now) ≡ Err bad)) }
 {
@@ -166,9 +188,48 @@ fn read_row(
     let Json::Object(_) = &document else {
         return Err(bad_line(alloc, number, RowCause::NotObject));
     };
-    read_cells(alloc, &document, number, columns)
+    if rise {
+        walk_cells(alloc, &document, number, columns)
+    } else {
+        read_cells(alloc, &document, number, columns)
+    }
 }
 
+/// The cells of an object, which is walked once, and again to name a bad value.
+fn walk_cells(
+    alloc: Global,
+    object: &Json,
+    number: u64,
+    columns: &[MappedColumn],
+) -> Result<Seq<Cell>, LoadError>
+    requires { NamesRise columns.now }
+    ensures ok { IfOk result (λ row. cells_of number columns.now (view object.now) ≡ Ok row) }
+    ensures bad { IfErr result (λ error. IfBadRow error (λ bad. cells_of number columns.now (view object.now) ≡ Err bad)) }
+{
+    let mut cells = null_cells(alloc, columns.len())?;
+    let reach = Reach {
+        depth: 0,
+        low: 0,
+        high: columns.len(),
+    };
+    match spread(alloc, object, reach, columns, cells.as_mut_slice()) {
+        Ok(()) => Ok(Seq::from_vec(cells)),
+        Err(TakeError::Bad(_)) => read_cells(alloc, object, number, columns),
+        Err(TakeError::Memory(error)) => Err(LoadError::Memory(error)),
+    }
+}
+
+fn null_cells(alloc: Global, count: usize) -> Result<Vec<Cell>, AllocError>
+    ensures { IfOk result (λ cells. cells.items ≡ replicate count []) }
+{
+    let mut cells = Vec::with_capacity(alloc, count)?;
+    for _ in 0..count {
+        cells.push(Cell::null(alloc))?;
+    }
+    Ok(cells)
+}
+
+/// The cells of an object, which is walked for each column.
 fn read_cells(
     alloc: Global,
     object: &Json,

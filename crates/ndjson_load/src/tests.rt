@@ -91,12 +91,22 @@ fn table(alloc: Global, properties: &str, bytes: &[u8], failing: u64) -> Result<
     document.push_str(properties)?;
     document.push_str("}}")?;
     let columns = read_mapping(alloc, document.as_str().as_bytes())?;
+    table_of(alloc, &columns, bytes, failing)
+}
+
+// The rows of a table of columns, or the first bad place.
+fn table_of(
+    alloc: Global,
+    columns: &Seq<MappedColumn>,
+    bytes: &[u8],
+    failing: u64,
+) -> Result<String, Fail> {
     let mut out = String::new(alloc);
     match load_table(
         alloc,
         &mut files(alloc, bytes, failing)?,
         "t.ndjson",
-        &columns,
+        columns,
     ) {
         Ok(Some(table)) => push_rows(&mut out, table.rows.as_slice())?,
         Ok(None) => out.push_str("none")?,
@@ -184,6 +194,9 @@ const BOOLEAN: &str = "{\"a\":{\"type\":\"boolean\"}}";
 const LENIENT: &str =
     "{\"a\":{\"type\":\"long\",\"null_value\":-1},\"b\":{\"type\":\"integer\",\"ignore_malformed\":true}}";
 
+const DEEP: &str =
+    "{\"a\":{\"properties\":{\"b\":{\"type\":\"long\"},\"c\":{\"properties\":{\"d\":{\"type\":\"long\"}}}}},\"a-x\":{\"type\":\"keyword\"}}";
+
 const ROWS: &[(&str, &str, &str)] = &[
     (
         NESTED,
@@ -217,6 +230,13 @@ const ROWS: &[(&str, &str, &str)] = &[
     (NESTED, "{\"a.b\":1,\"a\":{\"b\":2}}", "[2L 1L ]\n"),
     (NESTED, "{\"a\":5}", "1 [a.b] WantsObject"),
     (NESTED, "{\"a\":{\"b\":{}}}", "1 [a.b] WantsValue"),
+    (
+        DEEP,
+        "{\"a.c\":{\"d\":1},\"a\":{\"c.d\":2,\"b\":3},\"a.c.d\":4,\"a-x\":\"y\"}\n{\"a\":[{\"b\":[1]},null,[{\"b\":2,\"c\":null}]],\"a.\":7}",
+        "[y ][3L ][2L 1L 4L ]\n[][1L 2L ][]\n",
+    ),
+    (DEEP, "{\"a\":{\"b\":\"x\"},\"a-x\":1.5}", "1 [a-x] BadText"),
+    (DEEP, "{\"a\":[{\"c\":5},{\"b\":{}}]}", "1 [a.b] WantsValue"),
     (LONG, "{\"a\":1.0}", "1 [a] BadNumber"),
     (LONG, "{\"a\":1e3}", "1 [a] BadNumber"),
     (LONG, "{\"a\":-0}", "1 [a] BadNumber"),
@@ -237,6 +257,21 @@ fn rows_give_cells(rt: HostRuntime) -> Result<(), Fail> {
         let shown = table(rt.alloc(), properties, rows.as_bytes(), NEVER)?;
         assert!(rt; shown.as_str() == *wanted);
     }
+    Ok(())
+}
+
+#[test]
+fn columns_stand_in_any_order(rt: HostRuntime) -> Result<(), Fail> {
+    let alloc = rt.alloc();
+    let nested = "{\"mappings\":{\"properties\":{\"a.b\":{\"type\":\"long\"}}}}";
+    let mut columns = read_mapping(alloc, nested.as_bytes())?;
+    let again = read_mapping(alloc, nested.as_bytes())?;
+    for column in again.into_vec() {
+        columns.push(column)?;
+    }
+    let row = b"{\"a\":{\"b\":1}}";
+    let shown = table_of(alloc, &columns, row, NEVER)?;
+    assert_eq!(rt; shown.as_str(), "[1L ][1L ]\n");
     Ok(())
 }
 

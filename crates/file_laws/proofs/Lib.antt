@@ -1,0 +1,3 @@
+mod Lines
+mod FirstFaults
+mod Paths
