@@ -24,11 +24,12 @@ use Rattle.query_semantics.specs.Writings.{Writing}
 use Rattle.query_semantics.specs.WrittenAppended.{write_new, write_matched, write_policy}
 use Rattle.expression_analysis.specs.declared.error.AnalyzeError.{AnalyzeError}
 use Rattle.expression_analysis.specs.Answers.{IsRefusal}
-use Rattle.esql_analyze.specs.declared.columns.Shown.{Shown}
+use Rattle.visible_columns.specs.declared.columns.Shown.{Shown}
+use Rattle.visible_columns.specs.Columns.{shown_of}
 use Rattle.esql_analyze.specs.declared.policy_fields.Taken.{Taken}
 use Rattle.esql_analyze.specs.declared.writing.Writing.{Writing as Made}
 use Rattle.esql_analyze.specs.Policies.{AreTaken}
-use Rattle.esql_analyze.specs.Writings.{seen, shown_of}
+use Rattle.esql_analyze.specs.Writings.{seen}
 use Rattle.esql_analyze.proofs.AppendedWrites.{columns_new}
 use Rattle.esql_analyze.proofs.ExpandWrites.{seen_column, names_alike}
 use Rattle.esql_analyze.proofs.ShapeStays.{refused_as}

@@ -16,6 +16,8 @@ use Rattle.query_semantics.specs.Shapes.{Shape, shape_of_expand}
 use Rattle.query_semantics.specs.Writings.{column_at}
 use Rattle.query_semantics.specs.Written.{renumbered, write_expand_of, write_expand}
 use Rattle.query_semantics.proofs.Named.{columns-renumbered}
+use Rattle.visible_columns.specs.declared.columns.Shown.{Shown}
+use Rattle.visible_columns.specs.Columns.{shown_of}
 use Rattle.esql_analyze.specs.declared.writing.Writing.{Writing as Made}
 use Rattle.esql_analyze.specs.Writings.{seen}
 
@@ -62,3 +64,12 @@ expand_writes column old new id is visible next read cut steps = by_found (visib
           shape_found column old.visible (Some one) named
               ∙ ap (λ (columns : List Column). let shape : Shape = Ok columns in shape) (sym (ap columns_of visible ∙ columns-renumbered column.name old.next old.visible)),
         )
+
+-- the number of a column that is found
+pub id_shown : (found : Option OutColumn) (shown : Shown) → Some shown ≡ option_map shown_of found → Some shown.id ≡ option_map id_of found
+id_shown None shown is = absurd cc
+id_shown (Some column) shown is = let same : shown ≡ shown_of column = cc in ap (λ (this : Shown). Some this.id) same
+
+pub id_unknown : (found : Option OutColumn) → ◌≡◌ {A = Option Shown} None (option_map shown_of found) → ◌≡◌ {A = Option ColId} None (option_map id_of found)
+id_unknown None is = refl
+id_unknown (Some column) is = absurd cc

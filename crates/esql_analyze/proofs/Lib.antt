@@ -31,6 +31,5 @@ pub mod QueryWrites
 pub mod CommandWrites
 pub mod AppendedWrites
 pub mod PolicyFields
-pub mod NewColumns
 pub mod EnrichWrites
 pub mod GrokReads

@@ -2,14 +2,14 @@
 use Rattle.std.proofs.Common.{◌≡◌, ℕ, cond, List, map, Option, None, Ok, Err, ap, sym, subst, ◌∙◌}
 use Rattle.esql_types.specs.declared.places.Span.{Span}
 use Rattle.esql_types.specs.declared.names.Column.{Column}
-use Rattle.esql_ast.specs.declared.kept.NameError.{NameError}
-use Rattle.esql_ast.specs.declared.kept.NameError.TheVariants as pattern_error
-use Rattle.esql_ast.specs.declared.names.RenameError.{RenameError}
-use Rattle.esql_ast.specs.declared.names.RenameError.TheVariants as pair_error
+use Rattle.name_rules.specs.declared.kept.NameError.{NameError}
+use Rattle.name_rules.specs.declared.kept.NameError.TheVariants as pattern_error
+use Rattle.name_rules.specs.declared.names.RenameError.{RenameError}
+use Rattle.name_rules.specs.declared.names.RenameError.TheVariants as pair_error
 use Rattle.esql_ast.specs.declared.query.NamePattern.{NamePattern}
 use Rattle.esql_ast.specs.declared.query.RenamePair.{RenamePair}
-use Rattle.esql_ast.specs.NameRules.{Renaming, first_unmet, first_missing, keep_places, drop_places, at_places, renamings, renamed_by}
-use Rattle.esql_ast.specs.NamePlaces.{IsNameRefusal, IsRenameRefusal}
+use Rattle.name_rules.specs.NameRules.{Renaming, first_unmet, first_missing, keep_places, drop_places, at_places, renamings, renamed_by}
+use Rattle.name_rules.specs.NamePlaces.{IsNameRefusal, IsRenameRefusal}
 use Rattle.esql_plan.specs.declared.plan.OutColumn.{OutColumn}
 use Rattle.plan_semantics.specs.Plans.{columns_of}
 use Rattle.row_semantics.specs.declared.rule.NameRule.{NameRule}
@@ -24,7 +24,8 @@ use Rattle.expression_analysis.specs.declared.error.AnalyzeError.TheVariants.{Br
 use Rattle.expression_analysis.specs.Answers.{IsRefusal}
 use Rattle.esql_analyze.specs.declared.writing.Writing.{Writing as Made}
 use Rattle.esql_analyze.specs.declared.columns.Apart.{Apart}
-use Rattle.esql_analyze.specs.Writings.{seen, shown_of, joined, shown_under}
+use Rattle.visible_columns.specs.Columns.{shown_of}
+use Rattle.esql_analyze.specs.Writings.{seen, joined, shown_under}
 use Rattle.esql_analyze.specs.Names.{IsMemory, IsPatternError, IsPairError}
 use Rattle.esql_analyze.proofs.Parted.{joined_apart, shown_renamed}
 

@@ -6,11 +6,12 @@ use Rattle.std.specs.Option.{option_map}
 use Rattle.std.proofs.lemmas.List.Elements.{filter_map-append}
 use Rattle.std.proofs.lemmas.Option.{slice_get-map}
 use Rattle.std.proofs.lemmas.List.{append-nil, take_more}
-use Rattle.esql_ast.specs.NameRules.{Renaming, at_places, renamed_by}
+use Rattle.name_rules.specs.NameRules.{Renaming, at_places, renamed_by}
 use Rattle.esql_plan.specs.declared.plan.OutColumn.{OutColumn}
 use Rattle.query_semantics.specs.Writings.{visible_names, visible_as}
-use Rattle.esql_analyze.specs.declared.columns.Shown.{Shown}
-use Rattle.esql_analyze.specs.Writings.{shown_of, under_name, joined, shown_under}
+use Rattle.visible_columns.specs.declared.columns.Shown.{Shown}
+use Rattle.visible_columns.specs.Columns.{shown_of}
+use Rattle.esql_analyze.specs.Writings.{under_name, joined, shown_under}
 
 abbrev pub both : Option (List ℕ) → Option Shown → Option OutColumn
 both None shown = None

@@ -19,10 +19,10 @@ use Rattle.esql_ast.specs.declared.query.CommandKind.{CommandKind}
 use Rattle.esql_ast.specs.declared.query.CommandKind.TheVariants.{Filter, Eval, Keep, Drop, Rename, Sort, Limit, Expand, Stats, Dissect, Grok, Enrich, Join}
 use Rattle.esql_ast.specs.declared.query.NamePattern.{NamePattern}
 use Rattle.esql_ast.specs.declared.query.RenamePair.{RenamePair}
-use Rattle.esql_ast.specs.NameRules.{Renaming, placed_from, placed, keep_places, drop_places, is_met, at_places, stays, with_new_name, rename_pair, is_there, with_pair, renamings, renamed_by}
-use Rattle.esql_ast.specs.NameLaws.{IsKept}
+use Rattle.name_rules.specs.NameRules.{Renaming, placed_from, placed, keep_places, drop_places, is_met, at_places, stays, with_new_name, rename_pair, is_there, with_pair, renamings, renamed_by}
+use Rattle.name_rules.specs.NameLaws.{IsKept}
 use Rattle.esql_ast.specs.Nodes.{nodes_of_expr, nodes_of_field, nodes_of_key, nodes_of_kind, nodes_of_command}
-use Rattle.esql_ast.proofs.KeptOnce.{kept_differ, kept_are_won}
+use Rattle.name_rules.proofs.KeptOnce.{kept_differ, kept_are_won}
 use Rattle.esql_plan.specs.declared.catalog.PolicyShape.{PolicyShape}
 use Rattle.esql_plan.specs.declared.plan.OutColumn.{OutColumn}
 use Rattle.esql_plan.specs.declared.step.NewColumn.{NewColumn}

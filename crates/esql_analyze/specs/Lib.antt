@@ -10,4 +10,3 @@ pub mod StatsRules
 pub mod StatsSeen
 pub mod Behind
 pub mod Policies
-pub mod NewColumns

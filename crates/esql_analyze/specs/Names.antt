@@ -1,9 +1,9 @@
 -- The rules that KEEP, DROP, RENAME and the patterns of GROK break, as they are told.
 use Rattle.std.specs.Prelude.{◌≡◌}
-use Rattle.esql_ast.specs.declared.kept.NameError.{NameError}
-use Rattle.esql_ast.specs.declared.kept.NameError.TheVariants as pattern_error
-use Rattle.esql_ast.specs.declared.names.RenameError.{RenameError}
-use Rattle.esql_ast.specs.declared.names.RenameError.TheVariants as pair_error
+use Rattle.name_rules.specs.declared.kept.NameError.{NameError}
+use Rattle.name_rules.specs.declared.kept.NameError.TheVariants as pattern_error
+use Rattle.name_rules.specs.declared.names.RenameError.{RenameError}
+use Rattle.name_rules.specs.declared.names.RenameError.TheVariants as pair_error
 use Rattle.esql_types.specs.declared.places.Span.{Span}
 use Rattle.dissect_grok.specs.declared.error.GrokError.{GrokError}
 use Rattle.dissect_grok.specs.declared.error.GrokError.TheVariants as grok_error

@@ -2,11 +2,11 @@
 use Rattle.std.specs.Prelude.{◌≤◌, ℕ, ◌+◌, List, [], ◌∷◌, length, slice_get}
 use Rattle.std.specs.List.{filter_map}
 use Rattle.std.specs.Option.{option_map}
-use Rattle.esql_ast.specs.NameRules.{Renaming}
+use Rattle.name_rules.specs.NameRules.{Renaming}
 use Rattle.esql_plan.specs.declared.plan.OutColumn.{OutColumn}
 use Rattle.query_semantics.specs.Writings.{Writing}
 use Rattle.esql_analyze.specs.declared.writing.Writing.{Writing as Made}
-use Rattle.esql_analyze.specs.declared.columns.Shown.{Shown}
+use Rattle.visible_columns.specs.declared.columns.Shown.{Shown}
 
 abbrev pub seen : Made → Writing
 seen made = record { visible = made.visible; next = made.next; whole = made.patterns.whole; free = made.patterns.free; cutters = made.cutters; steps = made.steps }
@@ -18,10 +18,6 @@ pub record HasRoom (writing : Writing) (more : ℕ) : Type 0 where
   pub whole : length writing.whole + more ≤ 4294967295
   pub free : length writing.free + more ≤ 4294967295
   pub cutters : length writing.cutters + more ≤ 4294967295
-
--- a column that can be seen, without its name
-abbrev pub shown_of : OutColumn → Shown
-shown_of column = record { kind = column.kind; id = column.id }
 
 abbrev pub under_name : List ℕ → Shown → OutColumn
 under_name name shown = record { name = name; kind = shown.kind; id = shown.id }

@@ -1,21 +1,15 @@
-ghost use Rattle.std.specs.Prelude.{◌≡◌, ◌≤◌, ◌++◌, [], ◌∷◌, not, map, length, IfOk, OnOk};
-ghost use Rattle.std.specs.Str.{bytes_eq};
-ghost use Rattle.esql_ast.specs.NameRules.{at_places};
+ghost use Rattle.std.specs.Prelude.{◌≡◌, ◌≤◌, ◌++◌, [], ◌∷◌, map, length, IfOk, OnOk};
+ghost use Rattle.name_rules.specs.NameRules.{at_places};
 ghost use Rattle.query_semantics.specs.Writings.{put_visible, visible_names};
 ghost use Rattle.query_semantics.specs.Written.{numbered_from, scan_column};
-ghost use Rattle.esql_analyze.specs.Writings.{shown_of, joined, shown_under};
+ghost use Rattle.visible_columns.specs.Columns.{shown_of};
+ghost use Rattle.esql_analyze.specs.Writings.{joined, shown_under};
 
-use esql_ast::Renamed;
 use esql_plan::{OutColumn, ScanColumn};
 use esql_types::{ColId, Column, Kind, Seq, Text};
+use name_rules::Renamed;
 use std::alloc::{AllocError, Global};
-
-/// A column that can be seen, without its name.
-#[derive(Clone, Copy)]
-pub(crate) struct Shown {
-    pub(crate) kind: Kind,
-    pub(crate) id: ColId,
-}
+use visible_columns::{Shown, VisibleColumns};
 
 /// Columns, with their names apart.
 #[derive(Drop)]
@@ -24,30 +18,18 @@ pub(crate) struct Apart {
     pub(crate) shown: Seq<Shown>,
 }
 
-fn is_other(column: &OutColumn, name: &Text) -> bool
-    ensures { result ≡ not (bytes_eq column.now.name name.now) }
-{
-    column.name.as_str() != name.as_str()
-}
-
 /// The columns that can be seen with one in the place of that of its name, at the end.
 pub(crate) fn put_visible(
-    visible: Seq<OutColumn>,
+    alloc: Global,
+    visible: VisibleColumns,
     name: Text,
     kind: Kind,
     number: u32,
-) -> Result<Seq<OutColumn>, AllocError>
+) -> Result<VisibleColumns, AllocError>
     ensures { IfOk result (λ new. new ≡ put_visible visible name kind number) }
 {
-    let mut kept = visible.into_vec();
-    kept.retain(|column| is_other(column, &name));
-    let mut visible = Seq::from_vec(kept);
-    visible.push(OutColumn {
-        name,
-        kind,
-        id: ColId(number),
-    })?;
-    Ok(visible)
+    let id = ColId(number);
+    visible.put(alloc, OutColumn { name, kind, id })
 }
 
 /// Columns under numbers in turn.
@@ -85,13 +67,13 @@ pub(crate) fn scan_columns(
 }
 
 /// The columns, with their names apart.
-pub(crate) fn names_apart(alloc: Global, visible: Seq<OutColumn>) -> Result<Apart, AllocError>
+pub(crate) fn names_apart(alloc: Global, visible: VisibleColumns) -> Result<Apart, AllocError>
     ensures names { IfOk result (λ apart. apart.names ≡ visible_names visible) }
     ensures shown { IfOk result (λ apart. apart.shown ≡ map shown_of visible) }
 {
     let mut names = Seq::new(alloc);
     let mut shown = Seq::new(alloc);
-    for column in visible.into_vec() {
+    for column in visible.into_seq(alloc)?.into_vec() {
         let OutColumn { name, kind, id } = column;
         names.push(name)?;
         shown.push(Shown { kind, id })?;
@@ -122,14 +104,14 @@ pub(crate) fn columns_at(
     alloc: Global,
     apart: &Apart,
     places: &[u32],
-) -> Result<Seq<OutColumn>, AllocError>
+) -> Result<VisibleColumns, AllocError>
     ensures { IfOk result (λ visible. visible ≡ at_places places.now (joined apart.now.names apart.now.shown)) }
 {
     let mut visible = Seq::new(alloc);
     for place in places {
         push_at(&mut visible, apart, *place)?;
     }
-    Ok(visible)
+    VisibleColumns::from_seq(alloc, visible)
 }
 
 fn push_renamed(
@@ -155,12 +137,12 @@ pub(crate) fn columns_renamed(
     alloc: Global,
     shown: &Seq<Shown>,
     renamed: Seq<Renamed>,
-) -> Result<Seq<OutColumn>, AllocError>
+) -> Result<VisibleColumns, AllocError>
     ensures { IfOk result (λ visible. visible ≡ shown_under renamed shown.now) }
 {
     let mut visible = Seq::new(alloc);
     for one in renamed.into_vec() {
         push_renamed(&mut visible, shown, one)?;
     }
-    Ok(visible)
+    VisibleColumns::from_seq(alloc, visible)
 }

@@ -4,26 +4,25 @@ ghost use Rattle.esql_plan.specs.Signatures.{is_numeric};
 ghost use Rattle.esql_plan.specs.declared.step.Step.TheVariants as step;
 ghost use Rattle.plan_semantics.specs.Plans.{columns_of};
 ghost use Rattle.plan_semantics.specs.Taken.{kinds_match};
-ghost use Rattle.row_semantics.specs.Typed.{visible_named};
 ghost use Rattle.query_semantics.specs.Appended.{policy_from, policy_named, matched_name, matched_at, fields_taken, taken_columns, taken_numbers};
 ghost use Rattle.query_semantics.specs.AppendedShapes.{shape_of_enrich, shape_of_policy};
 ghost use Rattle.query_semantics.specs.Catalogs.{IsCatalog};
 ghost use Rattle.query_semantics.specs.Sizes.{fields_appended};
 ghost use Rattle.query_semantics.specs.WrittenAppended.{write_enrich, write_new, write_policy};
-ghost use Rattle.esql_analyze.specs.Writings.{seen, HasRoom, shown_of};
+ghost use Rattle.esql_analyze.specs.Writings.{seen, HasRoom};
 ghost use Rattle.esql_analyze.specs.Answers.{Writes};
 ghost use Rattle.esql_analyze.specs.Policies.{found_of};
 
 use crate::appended::append;
-use crate::columns::Shown;
 use crate::policy_fields::{Taken, take_fields};
 use crate::writing::Writing;
 use esql_ast::{EnrichItem, NameAt};
-use esql_plan::{Catalog, OutColumn, PolicyShape, Step};
+use esql_plan::{Catalog, PolicyShape, Step};
 use esql_types::{Kind, Seq, Span, Text};
 use expression_analysis::AnalyzeError;
 use row_semantics::NameRule;
 use std::alloc::{AllocError, Global};
+use visible_columns::Shown;
 
 /// A policy and its number in the catalog.
 #[derive(Clone, Copy)]
@@ -64,21 +63,6 @@ fn matched_at(policy: &NameAt, on: &Option<NameAt>) -> Span
         Some(on) => on.span,
         None => policy.span,
     }
-}
-
-// The column of a name among those that can be seen.
-fn find_visible(visible: &[OutColumn], name: &Text) -> Option<Shown>
-    ensures { result ≡ option_map shown_of (visible_named visible.now name.now) }
-{
-    for column in visible {
-        if column.name.as_str() == name.as_str() {
-            return Some(Shown {
-                kind: column.kind,
-                id: column.id,
-            });
-        }
-    }
-    None
 }
 
 fn is_number(kind: Kind) -> bool
@@ -136,7 +120,7 @@ fn write_policy(
 {
     let at = matched_at(policy, on);
     let name = matched_name(found.shape, on);
-    let matched = match find_visible(writing.visible.as_slice(), name) {
+    let matched = match writing.visible.named(name.as_str()) {
         Some(matched) => matched,
         None => {
             return Err(AnalyzeError::Broken {

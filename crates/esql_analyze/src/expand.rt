@@ -1,60 +1,29 @@
-ghost use Rattle.std.specs.Prelude.{◌≡◌, map, length, IfOk};
+ghost use Rattle.std.specs.Prelude.{◌≡◌};
 ghost use Rattle.std.specs.Option.{option_map};
 ghost use Rattle.plan_semantics.specs.Plans.{columns_of};
 ghost use Rattle.row_semantics.specs.Typed.{visible_named};
 ghost use Rattle.query_semantics.specs.Shapes.{shape_of_expand};
-ghost use Rattle.query_semantics.specs.Written.{renumbered, write_expand};
+ghost use Rattle.query_semantics.specs.Written.{write_expand};
 ghost use Rattle.esql_analyze.specs.Writings.{seen, HasRoom};
 ghost use Rattle.esql_analyze.specs.Answers.{Writes};
 
 use crate::writing::Writing;
 use esql_ast::NameAt;
-use esql_plan::{OutColumn, Step};
-use esql_types::{ColId, Seq, Text};
+use esql_plan::Step;
+use esql_types::{ColId, Text};
 use expression_analysis::AnalyzeError;
 use row_semantics::NameRule;
-use std::alloc::{AllocError, Global};
+use std::alloc::Global;
+use visible_columns::VisibleColumns;
 
 // The number of the column of a name.
-fn number_of(visible: &[OutColumn], name: &Text) -> Option<ColId>
+fn number_of(visible: &VisibleColumns, name: &Text) -> Option<ColId>
     ensures { result ≡ option_map (λ column. column.id) (visible_named visible.now name.now) }
 {
-    for column in visible {
-        if column.name.as_str() == name.as_str() {
-            return Some(column.id);
-        }
+    match visible.named(name.as_str()) {
+        Some(shown) => Some(shown.id),
+        None => None,
     }
-    None
-}
-
-fn renumber(column: OutColumn, name: &Text, number: u32) -> OutColumn
-    ensures { result ≡ renumbered name.now number column }
-{
-    if column.name.as_str() == name.as_str() {
-        OutColumn {
-            name: column.name,
-            kind: column.kind,
-            id: ColId(number),
-        }
-    } else {
-        column
-    }
-}
-
-// The columns with another number for that of a name.
-fn renumber_columns(
-    alloc: Global,
-    visible: Seq<OutColumn>,
-    name: &Text,
-    number: u32,
-) -> Result<Seq<OutColumn>, AllocError>
-    ensures { IfOk result (λ columns. columns ≡ map (renumbered name.now number) visible) }
-{
-    let mut columns = Seq::new(alloc);
-    for column in visible.into_vec() {
-        columns.push(renumber(column, name, number))?;
-    }
-    Ok(columns)
 }
 
 /// MV_EXPAND: a column of a new number takes the place of that of the name.
@@ -73,7 +42,7 @@ pub(crate) fn write_expand(
         cutters,
         steps,
     } = writing;
-    let id = match number_of(visible.as_slice(), &column.name) {
+    let id = match number_of(&visible, &column.name) {
         Some(id) => id,
         None => {
             return Err(AnalyzeError::Broken {
@@ -82,7 +51,7 @@ pub(crate) fn write_expand(
             });
         }
     };
-    let visible = renumber_columns(alloc, visible, &column.name, next)?;
+    let visible = visible.renumber(alloc, column.name.as_str(), ColId(next))?;
     let mut steps = steps;
     steps.push(Step::Expand {
         id,

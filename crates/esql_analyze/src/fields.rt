@@ -74,7 +74,7 @@ fn add_field(
         steps,
     } = writing;
     let name = name_of_field(alloc, text, field)?;
-    let visible = put_visible(visible, name, typed.kind, next)?;
+    let visible = put_visible(alloc, visible, name, typed.kind, next)?;
     let mut steps = steps;
     steps.push(Step::Eval {
         to: ColId(next),
@@ -110,7 +110,7 @@ pub(crate) fn write_field<M: Maker>(
         steps,
     } = writing;
     let mut patterns = patterns;
-    let typed = typed_expr(alloc, &field.expr, visible.as_slice(), &mut patterns, maker)?;
+    let typed = typed_expr(alloc, &field.expr, &visible, &mut patterns, maker)?;
     let writing = Writing {
         visible,
         next,
@@ -171,7 +171,7 @@ pub(crate) fn write_condition<M: Maker>(
         steps,
     } = writing;
     let mut patterns = patterns;
-    let typed = typed_expr(alloc, condition, visible.as_slice(), &mut patterns, maker)?;
+    let typed = typed_expr(alloc, condition, &visible, &mut patterns, maker)?;
     if !is_condition(typed.kind) {
         return Err(AnalyzeError::Broken {
             rule: NameRule::NotBoolean,

@@ -93,7 +93,7 @@ pub(crate) fn write_input<M: Maker>(
         steps,
     } = writing;
     let mut patterns = patterns;
-    let typed = typed_expr(alloc, expr, visible.as_slice(), &mut patterns, maker)?;
+    let typed = typed_expr(alloc, expr, &visible, &mut patterns, maker)?;
     let writing = Writing {
         visible,
         next,

@@ -1,7 +1,7 @@
 //! A query is judged and written as a plan in one pass: names become numbers, and regular expressions are built.
 //!
 //! Read its specs in this order: `Contexts`, `Writings`, `Answers`, `Names`, `Regulars`, `Plans`; those of STATS: `Parts`, `CallsSeen`,
-//! `StatsRules`, `StatsSeen`, `Behind`; those of DISSECT, GROK and ENRICH: `NewColumns`, `Policies`.
+//! `StatsRules`, `StatsSeen`, `Behind`; those of ENRICH: `Policies`.
 #![tactic(auto)]
 
 mod appended;

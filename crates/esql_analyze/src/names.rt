@@ -1,5 +1,5 @@
 ghost use Rattle.std.specs.Prelude.{◌≡◌, ◌<◌, length, IfErr, MatchResult};
-ghost use Rattle.esql_ast.specs.NamePlaces.{IsNameRefusal, IsRenameRefusal};
+ghost use Rattle.name_rules.specs.NamePlaces.{IsNameRefusal, IsRenameRefusal};
 ghost use Rattle.plan_semantics.specs.Plans.{columns_of};
 ghost use Rattle.query_semantics.specs.Shapes.{shape_of_keep, shape_of_drop, shape_of_rename};
 ghost use Rattle.query_semantics.specs.Writings.{visible_names};
@@ -10,11 +10,10 @@ ghost use Rattle.esql_analyze.specs.Names.{IsPatternError, IsPairError};
 
 use crate::columns::{columns_at, columns_renamed, names_apart};
 use crate::writing::Writing;
-use esql_ast::{
-    NameError, NamePattern, RenameError, RenamePair, drop_names, keep_order, rename_pairs,
-};
+use esql_ast::{NamePattern, RenamePair};
 use esql_types::Seq;
 use expression_analysis::AnalyzeError;
+use name_rules::{NameError, RenameError, drop_names, keep_order, rename_pairs};
 use row_semantics::NameRule;
 use std::alloc::Global;
 

@@ -119,7 +119,7 @@ pub fn analyze<M: Maker>(
     let plan = Plan {
         source,
         steps,
-        output: visible,
+        output: visible.into_seq(alloc)?,
         columns: next,
         nodes: query.nodes,
     };

@@ -21,6 +21,7 @@ use esql_types::{Column, Maker, Seq, Span};
 use expression_analysis::AnalyzeError;
 use source_columns::{SourceError, columns_of_tables, tables_named};
 use std::alloc::{AllocError, Global};
+use visible_columns::VisibleColumns;
 
 /// The source of a plan, and what is written of the plan before its first step.
 #[derive(Drop)]
@@ -55,7 +56,7 @@ fn scan(
     let columns = scan_columns(alloc, visible.as_slice())?;
     Ok(Begun {
         source: PlanSource::Scan { tables, columns },
-        writing: begin(alloc, visible, next),
+        writing: begin(alloc, VisibleColumns::from_seq(alloc, visible)?, next),
     })
 }
 
@@ -93,7 +94,7 @@ fn from_row<M: Maker>(
     ensures begins { Begins (λ accepts. shape_of_fields (over text.now accepts) fields.now []) OneRow (write_fields text.now fields.now (writing_of_columns [])) result }
     ensures hears { Hears M.refused M.last (flat_map regulars_of_field fields.now) maker.old maker.new result }
 {
-    let empty = begin(alloc, Seq::new(alloc), 0);
+    let empty = begin(alloc, VisibleColumns::new(alloc), 0);
     let writing = write_fields(alloc, text, empty, fields, maker)?;
     Ok(Begun {
         source: PlanSource::OneRow,

@@ -28,16 +28,17 @@ use crate::stats_inputs::{
 use crate::stats_rules::judge;
 use crate::writing::Writing;
 use esql_ast::{Condition, Expr, Field, StatsField};
-use esql_plan::{Aggregate, GroupColumn, OutColumn, Step, TypedExpr};
+use esql_plan::{Aggregate, GroupColumn, Step, TypedExpr};
 use esql_types::{ColId, Maker, Seq, Span, Text, text_at};
 use expression_analysis::{AnalyzeError, typed_field};
 use row_semantics::CallColumn;
 use std::alloc::{AllocError, Global};
+use visible_columns::VisibleColumns;
 
 // A plan behind the step that makes the groups.
 #[derive(Drop)]
 struct Grouped {
-    before: Seq<OutColumn>,
+    before: VisibleColumns,
     first: u32,
     calls: u32,
     groups: Seq<GroupInput>,
@@ -136,7 +137,7 @@ fn write_grouping(
         calls: count,
         groups,
         writing: Writing {
-            visible: Seq::new(alloc),
+            visible: VisibleColumns::new(alloc),
             next: next + (count + width),
             patterns,
             cutters,
@@ -169,7 +170,7 @@ fn call_columns(
 // A field over the columns of its calls.
 fn type_field<M: Maker>(
     alloc: Global,
-    before: &[OutColumn],
+    before: &VisibleColumns,
     calls: &[CallColumn],
     writing: Writing,
     expr: &Expr,
@@ -261,7 +262,7 @@ fn add_field(
         cutters,
         steps,
     } = input.writing;
-    let visible = put_visible(visible, name, input.kind, input.id.0)?;
+    let visible = put_visible(alloc, visible, name, input.kind, input.id.0)?;
     Ok(Writing {
         visible,
         next,
@@ -274,7 +275,7 @@ fn add_field(
 fn write_field<M: Maker>(
     alloc: Global,
     text: &str,
-    before: &[OutColumn],
+    before: &VisibleColumns,
     behind: Behind,
     stats: &StatsField,
     maker: &mut M,
@@ -308,7 +309,7 @@ fn write_field<M: Maker>(
 fn write_fields<M: Maker>(
     alloc: Global,
     text: &str,
-    before: &[OutColumn],
+    before: &VisibleColumns,
     behind: Behind,
     fields: &[StatsField],
     maker: &mut M,
@@ -334,8 +335,8 @@ fn put_groups(
     number: u32,
     groups: &[Field],
     inputs: &[GroupInput],
-    visible: Seq<OutColumn>,
-) -> Result<Seq<OutColumn>, AllocError>
+    visible: VisibleColumns,
+) -> Result<VisibleColumns, AllocError>
     requires fits { FieldsFit text.now groups.now }
     requires few { number + length groups.now ≤ 4294967295 }
     requires same { length inputs.now ≡ length groups.now }
@@ -345,7 +346,7 @@ fn put_groups(
     let mut number = number;
     for (place, group) in groups.iter().enumerate() {
         let name = name_of_field(alloc, text, group)?;
-        visible = put_visible(visible, name, inputs[place].kind, number)?;
+        visible = put_visible(alloc, visible, name, inputs[place].kind, number)?;
         number += 1;
     }
     Ok(visible)
@@ -381,7 +382,7 @@ fn write_behind<M: Maker>(
         number: first,
         writing,
     };
-    let writing = write_fields(alloc, text, before.as_slice(), behind, fields, maker)?;
+    let writing = write_fields(alloc, text, &before, behind, fields, maker)?;
     let Writing {
         visible,
         next,
@@ -422,7 +423,7 @@ pub(crate) fn write_stats<M: Maker>(
     ensures writes { Writes (λ accepts. shape_of_stats text.now accepts fields.now groups.now (columns_of writing.visible)) (write_stats text.now fields.now groups.now (seen writing)) result }
     ensures hears { Hears M.refused M.last (flat_map regulars_of_stats fields.now ++ flat_map regulars_of_field groups.now) maker.old maker.new result }
 {
-    judge(alloc, writing.visible.as_slice(), fields, groups, maker)?;
+    judge(alloc, &writing.visible, fields, groups, maker)?;
     let made = write_all_before(alloc, writing, fields, maker)?;
     let grouping = write_groups(alloc, made.writing, groups, maker)?;
     let grouped = write_grouping(alloc, grouping, made.calls)?;

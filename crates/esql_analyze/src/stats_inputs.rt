@@ -107,7 +107,7 @@ fn type_expr<M: Maker>(
         steps,
     } = writing;
     let mut patterns = patterns;
-    let typed = typed_expr(alloc, expr, visible.as_slice(), &mut patterns, maker)?;
+    let typed = typed_expr(alloc, expr, &visible, &mut patterns, maker)?;
     let writing = Writing {
         visible,
         next,

@@ -16,12 +16,12 @@ ghost use Rattle.esql_analyze.specs.StatsRules.{broken_of, rule_of_field, rule_o
 
 use crate::calls::{Opened, find_calls};
 use esql_ast::{Condition, Expr, Field, StatsField};
-use esql_plan::OutColumn;
 use esql_types::{Kind, Maker, Seq, Span};
 use expression_analysis::{AnalyzeError, typed_expr, typed_field};
 use row_semantics::NameRule;
 use std::alloc::Global;
 use text_match::Patterns;
+use visible_columns::VisibleColumns;
 
 /// A rule that STATS breaks itself, at its place.
 #[derive(Clone, Copy)]
@@ -43,7 +43,7 @@ fn no_patterns(alloc: Global) -> Patterns
 // The kind of a field's expression. Its patterns are built for the judgement alone: they are read where its parts are written.
 fn kind_in_field<M: Maker>(
     alloc: Global,
-    columns: &[OutColumn],
+    columns: &VisibleColumns,
     expr: &Expr,
     maker: &mut M,
 ) -> Result<Kind, AnalyzeError>
@@ -59,7 +59,7 @@ fn kind_in_field<M: Maker>(
 
 fn kind_outside<M: Maker>(
     alloc: Global,
-    columns: &[OutColumn],
+    columns: &VisibleColumns,
     expr: &Expr,
     maker: &mut M,
 ) -> Result<Kind, AnalyzeError>
@@ -75,7 +75,7 @@ fn kind_outside<M: Maker>(
 
 fn kind_of_condition<M: Maker>(
     alloc: Global,
-    columns: &[OutColumn],
+    columns: &VisibleColumns,
     condition: &Option<Condition>,
     maker: &mut M,
 ) -> Result<Option<Kind>, AnalyzeError>
@@ -153,7 +153,7 @@ fn first_broken(broken: Option<BrokenRule>, later: Option<BrokenRule>) -> Option
 // The rule that a field breaks, whose parts break none.
 fn judge_field<M: Maker>(
     alloc: Global,
-    columns: &[OutColumn],
+    columns: &VisibleColumns,
     stats: &StatsField,
     maker: &mut M,
 ) -> Result<Option<BrokenRule>, AnalyzeError>
@@ -173,7 +173,7 @@ fn judge_field<M: Maker>(
 
 fn judge_fields<M: Maker>(
     alloc: Global,
-    columns: &[OutColumn],
+    columns: &VisibleColumns,
     fields: &[StatsField],
     maker: &mut M,
 ) -> Result<Option<BrokenRule>, AnalyzeError>
@@ -192,7 +192,7 @@ fn judge_fields<M: Maker>(
 
 fn judge_groups<M: Maker>(
     alloc: Global,
-    columns: &[OutColumn],
+    columns: &VisibleColumns,
     groups: &[Field],
     maker: &mut M,
 ) -> Result<(), AnalyzeError>
@@ -211,7 +211,7 @@ fn judge_groups<M: Maker>(
 /// itself, field by field.
 pub(crate) fn judge<M: Maker>(
     alloc: Global,
-    columns: &[OutColumn],
+    columns: &VisibleColumns,
     fields: &[StatsField],
     groups: &[Field],
     maker: &mut M,

@@ -6,17 +6,18 @@ ghost use Rattle.esql_analyze.specs.Writings.{seen};
 ghost use Rattle.esql_analyze.specs.Answers.{Writes};
 
 use dissect_grok::Cutter;
-use esql_plan::{OutColumn, Step};
+use esql_plan::Step;
 use esql_types::{Seq, Span};
 use expression_analysis::AnalyzeError;
 use row_semantics::NameRule;
 use std::alloc::{AllocError, Global};
 use text_match::Patterns;
+use visible_columns::VisibleColumns;
 
 /// A plan that is being written: the columns that can be seen, the next column number, and what was read and written so far.
 #[derive(Drop)]
 pub(crate) struct Writing {
-    pub(crate) visible: Seq<OutColumn>,
+    pub(crate) visible: VisibleColumns,
     pub(crate) next: u32,
     pub(crate) patterns: Patterns,
     pub(crate) cutters: Seq<Cutter>,
@@ -24,7 +25,7 @@ pub(crate) struct Writing {
 }
 
 /// A plan before its first step, over columns that are read.
-pub(crate) fn begin(alloc: Global, visible: Seq<OutColumn>, next: u32) -> Writing
+pub(crate) fn begin(alloc: Global, visible: VisibleColumns, next: u32) -> Writing
     ensures { seen result ≡ record { visible = visible; next = next; whole = []; free = []; cutters = []; steps = [] } }
 {
     Writing {
@@ -52,7 +53,7 @@ pub(crate) fn write_limit(count: u64, writing: Writing) -> Result<Writing, Alloc
 pub(crate) fn unless_empty(span: Span, writing: Writing) -> Result<Writing, AnalyzeError>
     ensures { Writes (λ accepts. unless_empty span (columns_of writing.visible)) (seen writing) result }
 {
-    if writing.visible.len() == 0 {
+    if writing.visible.is_empty() {
         return Err(AnalyzeError::Broken {
             rule: NameRule::EmptyResultColumns,
             span,

@@ -10,15 +10,20 @@ use Rattle.esql_types.specs.declared.value.Kind.TheVariants as kind
 use Rattle.esql_types.specs.declared.value.Value.{Value}
 use Rattle.esql_plan.specs.declared.plan.OutColumn.{OutColumn}
 use Rattle.esql_plan.specs.declared.typed.TypedExpr.{TypedExpr}
+use Rattle.esql_plan.specs.declared.typed.TypedForm.TheVariants.{Column}
+use Rattle.esql_plan.specs.Exprs.{typed_at}
 use Rattle.text_match.specs.declared.patterns.Patterns.{Patterns}
 use Rattle.plan_semantics.specs.Plans.{columns_of}
 use Rattle.row_semantics.specs.declared.rule.NameRule.{NameRule}
+use Rattle.row_semantics.specs.declared.rule.NameRule.TheVariants.{UnknownColumn}
 use Rattle.row_semantics.specs.Forms.{named, refused, list_in_kind, kind_of_list, constant_in}
 use Rattle.row_semantics.specs.Kinds.{kind_of_column}
 use Rattle.row_semantics.specs.Scopes.{Broken, column_named}
 use Rattle.row_semantics.specs.Typed.{typed_column, visible_named}
 use Rattle.expression_analysis.specs.declared.error.AnalyzeError.{AnalyzeError}
 use Rattle.expression_analysis.specs.declared.error.AnalyzeError.TheVariants as error
+use Rattle.visible_columns.specs.declared.columns.Shown.{Shown}
+use Rattle.visible_columns.specs.Columns.{shown_of}
 use Rattle.expression_analysis.specs.Steps.{Marks, Over, Gives, IsTyped, IsAnswer, Readings, readings_at, IsPlainAnswer, constant_or_rule, column_or_rule}
 use Rattle.expression_analysis.proofs.Judgements.{gives_all}
 
@@ -103,3 +108,16 @@ module _ (over : Over) (node : NodeId) (span : Span) (patterns : Patterns) (mark
   pub column_answers : (name : List ℕ) (result : Result TypedExpr AnalyzeError) → IsPlainAnswer (column_or_rule node span (visible_named over.columns name)) result
       → IsAnswer (column_readings name) over patterns patterns marks marks result
   column_answers name result is = column_found name (visible_named over.columns name) result refl (names_alike over.columns name) is
+
+-- a column of the name that is found, and none
+pub column_shown : (node : NodeId) (span : Span) (found : Option OutColumn) (shown : Shown) → Some shown ≡ option_map shown_of found
+    → column_or_rule node span found ≡ Ok (typed_at node shown.kind (Column shown.id))
+column_shown node span None shown is = absurd cc
+column_shown node span (Some column) shown is =
+    let same : shown ≡ shown_of column = cc in
+    λ i. Ok (typed_at node (sym same i).kind (Column (sym same i).id))
+
+pub column_unknown : (node : NodeId) (span : Span) (found : Option OutColumn) → ◌≡◌ {A = Option Shown} None (option_map shown_of found)
+    → ◌≡◌ {A = Result TypedExpr Broken} (column_or_rule node span found) (Err (record { rule = UnknownColumn; span = span }))
+column_unknown node span None is = refl
+column_unknown node span (Some column) is = absurd cc

@@ -17,13 +17,13 @@ use crate::parts::{Parts, literal_at, literal_of};
 use crate::sight::Sight;
 use esql_ast::{BinaryOp, Expr, Form, NameAt, NodeAt, TextAt};
 use esql_plan::{
-    AggFunction, Function, FunctionRow, OutColumn, TypedExpr, cast_function, find_aggregate,
-    find_function,
+    AggFunction, Function, FunctionRow, TypedExpr, cast_function, find_aggregate, find_function,
 };
 use esql_types::{Boxed, Maker, Seq, Span};
 use row_semantics::{CallColumn, NameRule};
 use std::alloc::Global;
 use text_match::Patterns;
+use visible_columns::VisibleColumns;
 
 /// The typed form of an expression over the columns that can be seen; its regular expressions are built and added to
 /// `patterns`.
@@ -34,7 +34,7 @@ use text_match::Patterns;
 pub fn typed_expr<M: Maker>(
     alloc: Global,
     expr: &Expr,
-    columns: &[OutColumn],
+    columns: &VisibleColumns,
     patterns: &mut Patterns,
     maker: &mut M,
 ) -> Result<TypedExpr, AnalyzeError>
@@ -65,7 +65,7 @@ pub fn typed_expr<M: Maker>(
 pub fn typed_field<M: Maker>(
     alloc: Global,
     expr: &Expr,
-    columns: &[OutColumn],
+    columns: &VisibleColumns,
     calls: &[CallColumn],
     patterns: &mut Patterns,
     maker: &mut M,

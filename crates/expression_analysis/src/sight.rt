@@ -1,14 +1,14 @@
 ghost use Rattle.std.specs.Prelude.{◌≡◌};
 ghost use Rattle.expression_analysis.specs.Steps.{over_of, within_over};
 
-use esql_plan::OutColumn;
 use row_semantics::CallColumn;
+use visible_columns::VisibleColumns;
 
 /// What an expression is typed over: the columns that can be seen, those that stand for aggregate calls, and whether it stands
 /// in a field of STATS, where aggregates may be called.
 #[derive(Clone, Copy)]
 pub(crate) struct Sight<'a> {
-    pub(crate) columns: &'a [OutColumn],
+    pub(crate) columns: &'a VisibleColumns,
     pub(crate) calls: &'a [CallColumn],
     pub(crate) in_field: bool,
 }

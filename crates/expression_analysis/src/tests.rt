@@ -9,6 +9,7 @@ use row_semantics::{CallColumn, NameRule};
 use std::alloc::{AllocError, Global};
 use std::test::Fail;
 use text_match::Patterns;
+use visible_columns::VisibleColumns;
 
 fn named(alloc: Global, name: &str) -> Result<Expr, AllocError>
     ensures whole { IfOk result (λ expr. (typing_of expr).whole ≡ []) }
@@ -55,6 +56,7 @@ fn the_first_column_of_a_name(rt: HostRuntime) -> Result<(), Fail> {
     for (name, id) in [("a", 0), ("b", 1), ("a", 2)] {
         columns.push(column(alloc, name, id)?)?;
     }
+    let columns = VisibleColumns::from_seq(alloc, columns)?;
     for (name, id) in [("a", Some(0)), ("b", Some(1)), ("A", None)] {
         let mut patterns = Patterns {
             whole: Seq::new(alloc),
@@ -62,7 +64,7 @@ fn the_first_column_of_a_name(rt: HostRuntime) -> Result<(), Fail> {
         };
         let mut maker = CrateMaker::new(Seq::new(alloc));
         let expr = named(alloc, name)?;
-        let found = match typed_expr(alloc, &expr, columns.as_slice(), &mut patterns, &mut maker) {
+        let found = match typed_expr(alloc, &expr, &columns, &mut patterns, &mut maker) {
             Ok(typed) => match typed.form {
                 TypedForm::Column { id } => Some(id.0),
                 _ => None,
@@ -104,7 +106,7 @@ fn a_call_is_the_column_that_stands_for_it(rt: HostRuntime) -> Result<(), Fail> 
     let found = match typed_field(
         alloc,
         &expr,
-        &[],
+        &VisibleColumns::new(alloc),
         calls.as_slice(),
         &mut patterns,
         &mut maker,

@@ -1,5 +1,5 @@
 use Rattle.std.proofs.Common.{◌≡◌, take}
-use Rattle.esql_ast.specs.NameRules.{at_places}
+use Rattle.name_rules.specs.NameRules.{at_places}
 use Rattle.esql_analyze.specs.Writings.{joined}
 use Rattle.esql_analyze.proofs.columns.columns_at.Given as goal
 

@@ -1,7 +1,7 @@
 use Rattle.std.proofs.Common.{◌≡◌, ◌++◌, map}
 use Rattle.std.specs.Vec.Iter.{into_iter_items}
 use Rattle.query_semantics.specs.Writings.{visible_names}
-use Rattle.esql_analyze.specs.Writings.{shown_of}
+use Rattle.visible_columns.specs.Columns.{shown_of}
 use Rattle.esql_analyze.proofs.columns.names_apart.Given as goal
 
 abbrev pub invariant-loop-column : goal.invariant-loop-column

@@ -19,8 +19,8 @@ pub returns-in-Ok-clause-writes : goal.returns-in-Ok-clause-writes
 returns-in-Ok-clause-writes g c =
     let expr = c.args.field.now.expr in
     field_writes c.args.text.now c.args.field.now c.args.writing c.in-Ok.writing c.in_ok-typed.typed
-    (c.in_ok-typed.ensures.typed ∙ ap (λ (columns : List OutColumn). typed_of expr (visible_of columns) (length c.args.writing.patterns.whole) (length c.args.writing.patterns.free)) c.as_slice.ensures)
-    (ap (λ (columns : List OutColumn). kind_or_rule expr (scope_of is_accepted columns)) (sym c.as_slice.ensures) ∙ c.in_ok-typed.ensures.kind)
+    c.in_ok-typed.ensures.typed
+    c.in_ok-typed.ensures.kind
     c.in-Ok.ensures.visible c.in-Ok.ensures.next
     (ap (λ (these : Patterns). these.whole) c.in-Ok.ensures.patterns ∙ c.in_ok-typed.ensures.read.0)
     (ap (λ (these : Patterns). these.free) c.in-Ok.ensures.patterns ∙ c.in_ok-typed.ensures.read.1)

@@ -17,5 +17,5 @@ returns-in-Some-clause-written g c =
     let expr = c.args.expr.now in
     let old = c.args.writing in
     column_written expr old (record { visible = old.visible; next = old.next; patterns = c.typed_expr.new.patterns; cutters = old.cutters; steps = old.steps }) c.in_ok-typed.typed c.in-Some.id
-    (c.in_ok-typed.ensures.typed ∙ ap (λ (columns : List OutColumn). typed_of expr (visible_of columns) (length old.patterns.whole) (length old.patterns.free)) c.as_slice.ensures)
+    c.in_ok-typed.ensures.typed
     (sym c.in-Some.ensures) refl refl c.in_ok-typed.ensures.read.0 c.in_ok-typed.ensures.read.1 refl refl

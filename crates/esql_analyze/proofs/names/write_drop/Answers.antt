@@ -1,5 +1,5 @@
 use Rattle.std.proofs.Common.{List, ℕ, refl, sym, ap, ◌∙◌}
-use Rattle.esql_ast.specs.NameRules.{drop_places, at_places}
+use Rattle.name_rules.specs.NameRules.{drop_places, at_places}
 use Rattle.plan_semantics.specs.Plans.{columns_of}
 use Rattle.row_semantics.specs.Columns.{names_of}
 use Rattle.query_semantics.proofs.Named.{names_of-columns}

@@ -1,5 +1,5 @@
 use Rattle.std.proofs.Common.{refl, sym, ◌∙◌}
-use Rattle.esql_ast.specs.NameRules.{renamings, renamed_by}
+use Rattle.name_rules.specs.NameRules.{renamings, renamed_by}
 use Rattle.plan_semantics.specs.Plans.{columns_of}
 use Rattle.row_semantics.specs.Columns.{names_of, column_as}
 use Rattle.query_semantics.proofs.Named.{names_of-columns}

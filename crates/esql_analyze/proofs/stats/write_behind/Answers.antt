@@ -19,7 +19,7 @@ returns-in_err-writing-clause-refusal g c =
     let fields = c.args.fields.now in
     let grouped = c.args.grouped in
     let error = c.in_err-writing.field-0.0 in
-    let refused = subst (λ (columns : List OutColumn). OneIsRefused (judged_fields columns fields) error) c.as_slice.ensures c.in_err-writing.ensures.refusal in
+    let refused = c.in_err-writing.ensures.refusal in
     subst (λ (result : Result Made AnalyzeError). IfErr result (OneIsRefused (judged_fields grouped.before fields))) (sym (err_is c.from_residual.result error c.from_residual.ensures.1)) refused
 
 pub returns-clause-written : goal.returns-clause-written
@@ -28,7 +28,7 @@ returns-clause-written g c =
     let grouped = c.args.grouped in
     let fields = c.args.fields.now in
     let groups = c.args.groups.now in
-    let written = c.in_ok-writing.ensures.written ∙ ap (λ (columns : List OutColumn). write_stats_fields text columns grouped.first fields (seen grouped.writing)) c.as_slice.ensures in
-    let visible = c.in_ok-visible.ensures ∙ ap (λ (inputs : List GroupInput). put_groups text (grouped.first + grouped.calls) groups (groups_seen inputs) c.in_ok-writing.writing.visible) c.as_slice-2.ensures in
+    let written = c.in_ok-writing.ensures.written in
+    let visible = c.in_ok-visible.ensures ∙ ap (λ (inputs : List GroupInput). put_groups text (grouped.first + grouped.calls) groups (groups_seen inputs) c.in_ok-writing.writing.visible) c.as_slice.ensures in
     (λ i. record (seen c.in_ok-writing.writing) { visible = visible i })
     ∙ ap (λ (writing : Writing). record writing { visible = put_groups text (grouped.first + grouped.calls) groups (groups_seen grouped.groups) writing.visible }) written

@@ -35,7 +35,7 @@ returns-in_err-judge-clause-writes g c =
     let error = c.in_err-judge.field-0.0 in
     subst (λ (result : Result Made AnalyzeError). Writes (λ accepts. shape_of_stats text accepts fields groups (columns_of old.visible)) (write_stats text fields groups (seen old)) result)
     (sym (err_is c.from_residual.result error c.from_residual.ensures.1))
-    (subst (λ (columns : List OutColumn). IsRefusal (λ accepts. shape_of_stats text accepts fields groups (columns_of columns)) error) c.as_slice.ensures (c.in_err-judge.ensures.refusal text))
+    (c.in_err-judge.ensures.refusal text)
 
 pub write_all_before-requires : goal.write_all_before-requires
 write_all_before-requires g c = fields_have_room c.args.fields.now c.args.groups.now c.args.writing c.requires.room
@@ -47,7 +47,7 @@ returns-in_err-made-clause-writes g c =
     let groups = c.args.groups.now in
     let old = c.args.writing in
     let error = c.in_err-made.field-0.0 in
-    let has = subst (λ (columns : List OutColumn). HasValue (shape_of_stats text is_accepted fields groups (columns_of columns))) c.as_slice.ensures (c.in_ok-judge.ensures.found text) in
+    let has = c.in_ok-judge.ensures.found text in
     subst (λ (result : Result Made AnalyzeError). Writes (λ accepts. shape_of_stats text accepts fields groups (columns_of old.visible)) (write_stats text fields groups (seen old)) result)
     (sym (err_is c.from_residual-in_err-made.result error c.from_residual-in_err-made.ensures.1))
     (before_refused text old.visible fields groups error has c.in_err-made.ensures.refusal)
@@ -61,7 +61,7 @@ returns-in_err-made-clause-hears g c =
     let own = flat_map regulars_of_stats fields in
     let others = flat_map regulars_of_field groups in
     let error = c.in_err-made.field-0.0 in
-    let has = subst (λ (columns : List OutColumn). HasValue (shape_of_stats text is_accepted fields groups (columns_of columns))) c.as_slice.ensures (c.in_ok-judge.ensures.found text) in
+    let has = c.in_ok-judge.ensures.found text in
     let within = within_then (flat_map regulars_before fields) own (own ++ others) (before_within is_accepted old.visible fields (stats_have is_accepted old.visible text fields groups has).0) (within_front own others) in
     subst (λ (result : Result Made AnalyzeError). Hears g.M.Maker.refused g.M.Maker.last (own ++ others) c.args.maker.now c.write_all_before.new.maker result)
     (sym (err_is c.from_residual-in_err-made.result error c.from_residual-in_err-made.ensures.1))
@@ -77,7 +77,7 @@ returns-in_err-grouping-clause-writes g c =
     let groups = c.args.groups.now in
     let old = c.args.writing in
     let error = c.in_err-grouping.field-0.0 in
-    let has = subst (λ (columns : List OutColumn). HasValue (shape_of_stats text is_accepted fields groups (columns_of columns))) c.as_slice.ensures (c.in_ok-judge.ensures.found text) in
+    let has = c.in_ok-judge.ensures.found text in
     subst (λ (result : Result Made AnalyzeError). Writes (λ accepts. shape_of_stats text accepts fields groups (columns_of old.visible)) (write_stats text fields groups (seen old)) result)
     (sym (err_is c.from_residual-in_err-grouping.result error c.from_residual-in_err-grouping.ensures.1))
     (groups_refused text old.visible fields groups error has
@@ -149,7 +149,7 @@ returns-clause-writes g c =
     let is = stats_made fields groups old c.requires.room made.made grouping.grouping made.ensures.visible made.ensures.written made.ensures.inputs grouping.ensures.visible grouping.ensures.written grouping.ensures.inputs in
     let all = behind_is fields groups old c.requires.room made.made grouping.grouping is grouped.grouped
     (record { before_is = grouped.ensures.before; first = grouped.ensures.first; calls_are = grouped.ensures.calls; groups_same = grouped.ensures.groups; written_is = grouped.ensures.written }) text in
-    let has = subst (λ (columns : List OutColumn). HasValue (shape_of_stats text is_accepted fields groups (columns_of columns))) c.as_slice.ensures (c.in_ok-judge.ensures.found text) in
+    let has = c.in_ok-judge.ensures.found text in
     stats_writes text fields groups old grouped.grouped.before c.write_behind.result has (grouped.ensures.before ∙ grouping.ensures.visible ∙ made.ensures.visible)
     (subst (λ (writing : Writing). IfOk c.write_behind.result (λ new. seen new ≡ writing)) all c.write_behind.ensures.written) c.write_behind.ensures.refusal
 
