@@ -1,11 +1,11 @@
 -- A step on rows as they are kept is the step on the rows of numbered columns.
-use Rattle.std.proofs.Common.{◌≡◌, ℕ, zero, suc, ◌<◌, ◌≤◌, Bool, true, false, List, [], ◌∷◌, ◌++◌, length, get_or, set, map, take, All, refl, ap, sym, subst, ◌∙◌, arith}
+use Rattle.std.proofs.Common.{◌≡◌, ℕ, zero, suc, ◌<◌, ◌≤◌, Bool, true, false, List, [], ◌∷◌, ◌++◌, length, get_or, map, take, All, refl, ap, sym, subst, ◌∙◌, arith}
 use Rattle.std.specs.Prelude.{if◌then◌else◌}
 use Rattle.std.specs.List.{flat_map}
 use Rattle.std.specs.Ordering.{is_gt}
 use Rattle.std.specs.declared.cmp.Ordering.{Ordering}
-use Rattle.std.proofs.lemmas.List.{map-append, length-set, append-nil}
-use Rattle.std.proofs.lemmas.List.Elements.{All-nil, All-cons, All-head, All-tail, All-take, All-weaker}
+use Rattle.std.proofs.lemmas.List.{map-append, append-nil}
+use Rattle.std.proofs.lemmas.List.Elements.{All-nil, All-cons, All-head, All-tail, All-weaker}
 use Rattle.std.proofs.lemmas.List.Folds.{flat_map-map}
 use Rattle.esql_types.specs.declared.value.Value.{Value}
 use Rattle.esql_types.specs.declared.cause.Failure.{Failure}
@@ -21,13 +21,13 @@ use Rattle.plan_semantics.specs.Taken.{dissected, grokked, enriched, with_new}
 use Rattle.plan_semantics.specs.Orders.{order_of_rows}
 use Rattle.plan_semantics.specs.Steps.{is_true, step_gives, step_fails, step_rows, step_failures, expanded, rows_after, failures_after}
 use Rattle.plan_semantics.specs.Laws.{AreBelow}
-use Rattle.plan_semantics.specs.WellFormed.{Bounds, MadeColumn, StepStands, StepsStand, MakesNew, NewStand, IsMadeAs, step_made}
-use Rattle.plan_semantics.proofs.RowKinds.{all_flat, all_sorted}
+use Rattle.plan_semantics.specs.WellFormed.{Bounds, MadeColumn, StepStands, StepsStand, IsMadeAs, step_made}
 use Rattle.plan_semantics.proofs.Below.{failures_below}
-use Rattle.plan_rows.specs.Kept.{rows_of, AreWide, kept_gives, kept_rows, kept_failures, kept_new, expanded_cells, order_of_kept}
-use Rattle.plan_rows.specs.Runs.{CanRun, AreNewBelow, FailsBelow, StatsFailBelow, HaveCell}
-use Rattle.plan_rows.proofs.NumberedRows.{row_of-set}
-use Rattle.plan_rows.proofs.StatsRows.{rows_of-stats, wide-stats, stats_run}
+use Rattle.stats_groups.specs.Cells.{put_cell}
+use Rattle.plan_rows.specs.Kept.{rows_of, kept_gives, kept_rows, kept_failures, kept_new, expanded_cells, order_of_kept}
+use Rattle.plan_rows.specs.Runs.{CanRun, FailsBelow, StatsFailBelow}
+use Rattle.plan_rows.proofs.NumberedRows.{row_of-put}
+use Rattle.plan_rows.proofs.StatsRows.{rows_of-stats}
 
 -- lists ------------------------------------------------------------------------------------------------------------------------
 
@@ -40,12 +40,10 @@ map_take f zero items = refl
 map_take f (suc count) [] = refl
 map_take f (suc count) (item ∷ items) = ap (λ rest. f item ∷ rest) (map_take f count items)
 
-map_flat : {A B C D : Type 0} (f : A → List B) (g : C → List D) (on : A → C) (by : B → D) (P : A → Type 0) → ((item : A) → P item → map by (f item) ≡ g (on item))
-    → (items : List A) → All P items → map by (flat_map f items) ≡ flat_map g (map on items)
-map_flat f g on by P each [] all = refl
-map_flat f g on by P each (item ∷ items) all =
-    map-append by (f item) (flat_map f items)
-    ∙ (λ i. each item (All-head P item items all) i ++ map_flat f g on by P each items (All-tail P item items all) i)
+map_flat : {A B C D : Type 0} (f : A → List B) (g : C → List D) (on : A → C) (by : B → D) → ((item : A) → map by (f item) ≡ g (on item))
+    → (items : List A) → map by (flat_map f items) ≡ flat_map g (map on items)
+map_flat f g on by each [] = refl
+map_flat f g on by each (item ∷ items) = map-append by (f item) (flat_map f items) ∙ (λ i. each item i ++ map_flat f g on by each items i)
 
 module _ {A B : Type 0} (order : B → B → Ordering) (on : A → B) where
   abbrev through : A → A → Ordering
@@ -64,118 +62,55 @@ module _ {A B : Type 0} (order : B → B → Ordering) (on : A → B) where
 
 -- one row ------------------------------------------------------------------------------------------------------------------------
 
-expanded_mapped : (row : List (List Value)) (id : ℕ) (values : List Value) → id < length row
-    → map row_of (map (λ (one : Value). set row id (one ∷ [])) values) ≡ map (λ (one : Value). with_cell (row_of row) id (one ∷ [])) values
-expanded_mapped row id [] within = refl
-expanded_mapped row id (value ∷ values) within = λ i. row_of-set row id (value ∷ []) within i ∷ expanded_mapped row id values within i
+expanded_mapped : (row : List (List Value)) (id : ℕ) (values : List Value)
+    → map row_of (map (λ (one : Value). put_cell row id (one ∷ [])) values) ≡ map (λ (one : Value). with_cell (row_of row) id (one ∷ [])) values
+expanded_mapped row id [] = refl
+expanded_mapped row id (value ∷ values) = λ i. row_of-put row id (value ∷ []) i ∷ expanded_mapped row id values i
 
-expanded_rows : (row : List (List Value)) (id : ℕ) (cell : List Value) → id < length row → rows_of (expanded_cells row id cell) ≡ expanded (row_of row) id cell
-expanded_rows row id [] within = ap (λ (one : NumberedRow). one ∷ []) (row_of-set row id [] within)
-expanded_rows row id (value ∷ values) within = expanded_mapped row id (value ∷ values) within
+expanded_rows : (row : List (List Value)) (id : ℕ) (cell : List Value) → rows_of (expanded_cells row id cell) ≡ expanded (row_of row) id cell
+expanded_rows row id [] = ap (λ (one : NumberedRow). one ∷ []) (row_of-put row id [])
+expanded_rows row id (value ∷ values) = expanded_mapped row id (value ∷ values)
 
-abbrev IsWide : ℕ → List (List Value) → Type 0
-IsWide columns row = length row ≡ columns
-
-expanded_wide : (columns : ℕ) (row : List (List Value)) (id : ℕ) (values : List Value) → length row ≡ columns
-    → AreWide columns (map (λ (one : Value). set row id (one ∷ [])) values)
-expanded_wide columns row id [] wide = All-nil (IsWide columns)
-expanded_wide columns row id (value ∷ values) wide =
-    All-cons (IsWide columns) (set row id (value ∷ [])) (map (λ (one : Value). set row id (one ∷ [])) values) (length-set row id (value ∷ []) ∙ wide) (expanded_wide columns row id values wide)
-
-pub length-new : (row : List (List Value)) (to : List NewColumn) (cells : List (List Value)) → length (kept_new row to cells) ≡ length row
-length-new row [] cells = refl
-length-new row (new ∷ to) [] = length-new (set row new.id.0 []) to [] ∙ length-set row new.id.0 []
-length-new row (new ∷ to) (cell ∷ cells) = length-new (set row new.id.0 cell) to cells ∙ length-set row new.id.0 cell
-
-abbrev IsNewBelow : ℕ → NewColumn → Type 0
-IsNewBelow count new = new.id.0 < count
-
-row_of-new : (row : List (List Value)) (to : List NewColumn) (cells : List (List Value)) → AreNewBelow (length row) to → row_of (kept_new row to cells) ≡ with_new (row_of row) to cells
-row_of-new row [] cells below = refl
-row_of-new row (new ∷ to) [] below =
-    row_of-new (set row new.id.0 []) to [] (subst (λ (count : ℕ). AreNewBelow count to) (sym (length-set row new.id.0 [])) (All-tail (IsNewBelow (length row)) new to below))
-    ∙ ap (λ (one : NumberedRow). with_new one to []) (row_of-set row new.id.0 [] (All-head (IsNewBelow (length row)) new to below))
-row_of-new row (new ∷ to) (cell ∷ cells) below =
-    row_of-new (set row new.id.0 cell) to cells (subst (λ (count : ℕ). AreNewBelow count to) (sym (length-set row new.id.0 cell)) (All-tail (IsNewBelow (length row)) new to below))
-    ∙ ap (λ (one : NumberedRow). with_new one to cells) (row_of-set row new.id.0 cell (All-head (IsNewBelow (length row)) new to below))
+row_of-new : (row : List (List Value)) (to : List NewColumn) (cells : List (List Value)) → row_of (kept_new row to cells) ≡ with_new (row_of row) to cells
+row_of-new row [] cells = refl
+row_of-new row (new ∷ to) [] =
+    row_of-new (put_cell row new.id.0 []) to [] ∙ ap (λ (one : NumberedRow). with_new one to []) (row_of-put row new.id.0 [])
+row_of-new row (new ∷ to) (cell ∷ cells) =
+    row_of-new (put_cell row new.id.0 cell) to cells ∙ ap (λ (one : NumberedRow). with_new one to cells) (row_of-put row new.id.0 cell)
 
 -- steps --------------------------------------------------------------------------------------------------------------------------
 
 module _ (held : CatalogHeld) (bounds : Bounds) where
-  abbrev columns : ℕ
-  columns = bounds.columns
+  gives_rows : (step : Step) → (row : List (List Value)) → rows_of (kept_gives held step row) ≡ step_gives held step (row_of row)
+  gives_rows (Eval to expr) row = ap (λ (one : NumberedRow). one ∷ []) (row_of-put row to.0 (value_of_typed expr (row_of row)).cell)
+  gives_rows (Filter node condition) row = map_chosen row_of row (is_true (value_of_typed condition (row_of row)).cell)
+  gives_rows (Expand id to) row = expanded_rows row to.0 (get_or row id.0 [])
+  gives_rows (Sort keys) row = refl
+  gives_rows (TopN keys count) row = refl
+  gives_rows (Limit count) row = refl
+  gives_rows (Stats aggregates groups) row = refl
+  gives_rows (Dissect node input cutter pattern separator to) row =
+      ap (λ (one : NumberedRow). one ∷ []) (row_of-new row to (dissected pattern separator (length to) (row_of row input.0)).cells)
+  gives_rows (Grok node input cutter pattern to) row =
+      ap (λ (one : NumberedRow). one ∷ []) (row_of-new row to (grokked node pattern (length to) (row_of row input.0)).cells)
+  gives_rows (Enrich policy on fields to) row =
+      ap (λ (one : NumberedRow). one ∷ []) (row_of-new row to (enriched held policy fields (row_of row on.0)))
 
-  gives_rows : (step : Step) → CanRun bounds step → (row : List (List Value)) → length row ≡ columns
-      → rows_of (kept_gives held step row) ≡ step_gives held step (row_of row)
-  gives_rows (Eval to expr) run row wide =
-      ap (λ (one : NumberedRow). one ∷ []) (row_of-set row to.0 (value_of_typed expr (row_of row)).cell (rw wide run.1))
-  gives_rows (Filter node condition) run row wide = map_chosen row_of row (is_true (value_of_typed condition (row_of row)).cell)
-  gives_rows (Expand id to) run row wide = expanded_rows row to.0 (get_or row id.0 []) (rw wide run)
-  gives_rows (Sort keys) run row wide = refl
-  gives_rows (TopN keys count) run row wide = refl
-  gives_rows (Limit count) run row wide = refl
-  gives_rows (Stats aggregates groups) run row wide = refl
-  gives_rows (Dissect node input cutter pattern separator to) run row wide =
-      ap (λ (one : NumberedRow). one ∷ []) (row_of-new row to (dissected pattern separator (length to) (row_of row input.0)).cells (rw wide run.below))
-  gives_rows (Grok node input cutter pattern to) run row wide =
-      ap (λ (one : NumberedRow). one ∷ []) (row_of-new row to (grokked node pattern (length to) (row_of row input.0)).cells (rw wide run.below))
-  gives_rows (Enrich policy on fields to) run row wide =
-      ap (λ (one : NumberedRow). one ∷ []) (row_of-new row to (enriched held policy fields (row_of row on.0)) (rw wide run.below))
+  abbrev each_row : (step : Step) (rows : List (List (List Value))) → rows_of (flat_map (kept_gives held step) rows) ≡ flat_map (step_gives held step) (rows_of rows)
+  each_row step rows = map_flat (kept_gives held step) (step_gives held step) row_of row_of (gives_rows step) rows
 
-  abbrev each_row : (step : Step) → CanRun bounds step → (rows : List (List (List Value))) → AreWide columns rows
-      → rows_of (flat_map (kept_gives held step) rows) ≡ flat_map (step_gives held step) (rows_of rows)
-  each_row step run rows wide = map_flat (kept_gives held step) (step_gives held step) row_of row_of (IsWide columns) (gives_rows step run) rows wide
-
-  pub rows_of-step : (step : Step) → CanRun bounds step → (rows : List (List (List Value))) → AreWide columns rows
-      → rows_of (kept_rows held columns step rows) ≡ step_rows held step (rows_of rows)
-  rows_of-step (Eval to expr) run rows wide = each_row (Eval to expr) run rows wide
-  rows_of-step (Filter node condition) run rows wide = each_row (Filter node condition) run rows wide
-  rows_of-step (Expand id to) run rows wide = each_row (Expand id to) run rows wide
-  rows_of-step (Sort keys) run rows wide = sorted_mapped (order_of_rows keys) row_of rows
-  rows_of-step (TopN keys count) run rows wide =
+  pub rows_of-step : (step : Step) → CanRun bounds step → (rows : List (List (List Value))) → rows_of (kept_rows held step rows) ≡ step_rows held step (rows_of rows)
+  rows_of-step (Eval to expr) run rows = each_row (Eval to expr) rows
+  rows_of-step (Filter node condition) run rows = each_row (Filter node condition) rows
+  rows_of-step (Expand id to) run rows = each_row (Expand id to) rows
+  rows_of-step (Sort keys) run rows = sorted_mapped (order_of_rows keys) row_of rows
+  rows_of-step (TopN keys count) run rows =
       map_take row_of count (sorted_by (order_of_kept keys) rows) ∙ ap (take count) (sorted_mapped (order_of_rows keys) row_of rows)
-  rows_of-step (Limit count) run rows wide = map_take row_of count rows
-  rows_of-step (Stats aggregates groups) run rows wide = rows_of-stats columns aggregates groups run rows
-  rows_of-step (Dissect node input cutter pattern separator to) run rows wide = each_row (Dissect node input cutter pattern separator to) run rows wide
-  rows_of-step (Grok node input cutter pattern to) run rows wide = each_row (Grok node input cutter pattern to) run rows wide
-  rows_of-step (Enrich policy on fields to) run rows wide = each_row (Enrich policy on fields to) run rows wide
-
-  gives_wide : (step : Step) → (row : List (List Value)) → length row ≡ columns → AreWide columns (kept_gives held step row)
-  gives_wide (Eval to expr) row wide =
-      let cell = (value_of_typed expr (row_of row)).cell in
-      All-cons (IsWide columns) (set row to.0 cell) [] (length-set row to.0 cell ∙ wide) (All-nil (IsWide columns))
-  gives_wide (Filter node condition) row wide =
-      elim (is_true (value_of_typed condition (row_of row)).cell) as (λ b. AreWide columns (if b then row ∷ [] else []))
-      [ true ↦ All-cons (IsWide columns) row [] wide (All-nil (IsWide columns)) | false ↦ All-nil (IsWide columns) ]
-  gives_wide (Expand id to) row wide = by_cell (get_or row id.0 []) where
-    by_cell : (cell : List Value) → AreWide columns (expanded_cells row to.0 cell)
-    by_cell [] = All-cons (IsWide columns) (set row to.0 []) [] (length-set row to.0 [] ∙ wide) (All-nil (IsWide columns))
-    by_cell (value ∷ values) = expanded_wide columns row to.0 (value ∷ values) wide
-  gives_wide (Sort keys) row wide = All-cons (IsWide columns) row [] wide (All-nil (IsWide columns))
-  gives_wide (TopN keys count) row wide = All-cons (IsWide columns) row [] wide (All-nil (IsWide columns))
-  gives_wide (Limit count) row wide = All-cons (IsWide columns) row [] wide (All-nil (IsWide columns))
-  gives_wide (Stats aggregates groups) row wide = All-nil (IsWide columns)
-  gives_wide (Dissect node input cutter pattern separator to) row wide =
-      All-cons (IsWide columns) (kept_new row to (dissected pattern separator (length to) (row_of row input.0)).cells) [] (length-new row to (dissected pattern separator (length to) (row_of row input.0)).cells ∙ wide) (All-nil (IsWide columns))
-  gives_wide (Grok node input cutter pattern to) row wide =
-      All-cons (IsWide columns) (kept_new row to (grokked node pattern (length to) (row_of row input.0)).cells) [] (length-new row to (grokked node pattern (length to) (row_of row input.0)).cells ∙ wide) (All-nil (IsWide columns))
-  gives_wide (Enrich policy on fields to) row wide =
-      All-cons (IsWide columns) (kept_new row to (enriched held policy fields (row_of row on.0))) [] (length-new row to (enriched held policy fields (row_of row on.0)) ∙ wide) (All-nil (IsWide columns))
-
-  abbrev each_wide : (step : Step) (rows : List (List (List Value))) → AreWide columns rows → AreWide columns (flat_map (kept_gives held step) rows)
-  each_wide step rows wide = all_flat (IsWide columns) (IsWide columns) (kept_gives held step) (gives_wide step) rows wide
-
-  pub wide-step : (step : Step) (rows : List (List (List Value))) → AreWide columns rows → AreWide columns (kept_rows held columns step rows)
-  wide-step (Eval to expr) rows wide = each_wide (Eval to expr) rows wide
-  wide-step (Filter node condition) rows wide = each_wide (Filter node condition) rows wide
-  wide-step (Expand id to) rows wide = each_wide (Expand id to) rows wide
-  wide-step (Sort keys) rows wide = all_sorted (IsWide columns) (order_of_kept keys) rows wide
-  wide-step (TopN keys count) rows wide = All-take (IsWide columns) count (sorted_by (order_of_kept keys) rows) (all_sorted (IsWide columns) (order_of_kept keys) rows wide)
-  wide-step (Limit count) rows wide = All-take (IsWide columns) count rows wide
-  wide-step (Stats aggregates groups) rows wide = wide-stats columns aggregates groups rows
-  wide-step (Dissect node input cutter pattern separator to) rows wide = each_wide (Dissect node input cutter pattern separator to) rows wide
-  wide-step (Grok node input cutter pattern to) rows wide = each_wide (Grok node input cutter pattern to) rows wide
-  wide-step (Enrich policy on fields to) rows wide = each_wide (Enrich policy on fields to) rows wide
+  rows_of-step (Limit count) run rows = map_take row_of count rows
+  rows_of-step (Stats aggregates groups) run rows = rows_of-stats aggregates groups run rows
+  rows_of-step (Dissect node input cutter pattern separator to) run rows = each_row (Dissect node input cutter pattern separator to) rows
+  rows_of-step (Grok node input cutter pattern to) run rows = each_row (Grok node input cutter pattern to) rows
+  rows_of-step (Enrich policy on fields to) run rows = each_row (Enrich policy on fields to) rows
 
 -- the failures of a step on the rows of numbered columns
 pub failures_of-step : (step : Step) (rows : List (List (List Value))) → kept_failures step rows ≡ step_failures step (rows_of rows)
@@ -197,41 +132,38 @@ no_failures fails none (row ∷ rows) = λ i. none (row_of row) i ++ no_failures
 
 -- plans that are well formed -----------------------------------------------------------------------------------------------------
 
-new_below : (bounds : Bounds) (made : List MadeColumn) (to : List NewColumn) → NewStand bounds made to → AreNewBelow bounds.columns to
-new_below bounds made to stand = All-weaker (λ (new : NewColumn). MakesNew bounds made new.id) (IsNewBelow bounds.columns) (λ new makes. makes.below) to stand.new
-
 can_run : (bounds : Bounds) (made : List MadeColumn) (step : Step) → StepStands bounds made step → CanRun bounds step
-can_run bounds made (Eval to expr) stands = (stands.0.fits, stands.1.below)
+can_run bounds made (Eval to expr) stands = stands.0.fits
 can_run bounds made (Filter node condition) stands = stands.stands.fits
-can_run bounds made (Expand id to) stands = stands.1.below
+can_run bounds made (Expand id to) stands = tt
 can_run bounds made (Sort keys) stands = tt
 can_run bounds made (TopN keys count) stands = tt
 can_run bounds made (Limit count) stands = tt
-can_run bounds made (Stats aggregates groups) stands = stats_run bounds made aggregates groups stands
+can_run bounds made (Stats aggregates groups) stands = stands.once
 can_run bounds made (Dissect node input cutter pattern separator to) stands =
-    record { reading = stands.reading; read = stands.read; cutter = stands.cutter; below = new_below bounds made to stands.cut.new }
+    record { reading = stands.reading; read = stands.read; cutter = stands.cutter }
 can_run bounds made (Grok node input cutter pattern to) stands =
-    record { reading = stands.reading; read = stands.read; cutter = stands.cutter; below = new_below bounds made to stands.cut.new }
-can_run bounds made (Enrich policy on fields to) stands = record { policy = stands.policy; is = stands.is; below = new_below bounds made to stands.new }
+    record { reading = stands.reading; read = stands.read; cutter = stands.cutter }
+can_run bounds made (Enrich policy on fields to) stands = record { policy = stands.policy; is = stands.is }
 
--- what can be run can be run whatever the number of nodes is
-abbrev pub with_nodes : Bounds → ℕ → Bounds
-with_nodes bounds nodes = record { catalog = bounds.catalog; whole = bounds.whole; free = bounds.free; cutters = bounds.cutters; columns = bounds.columns; nodes = nodes }
+-- what can be run can be run whatever the numbers of columns and of nodes are
+abbrev pub unnumbered : Bounds → Bounds
+unnumbered bounds = record { catalog = bounds.catalog; whole = bounds.whole; free = bounds.free; cutters = bounds.cutters; columns = 0; nodes = 0 }
 
-runs_anyway : (bounds : Bounds) (nodes : ℕ) (step : Step) → CanRun bounds step → CanRun (with_nodes bounds nodes) step
-runs_anyway bounds nodes (Eval to expr) run = run
-runs_anyway bounds nodes (Filter node condition) run = run
-runs_anyway bounds nodes (Expand id to) run = run
-runs_anyway bounds nodes (Sort keys) run = run
-runs_anyway bounds nodes (TopN keys count) run = run
-runs_anyway bounds nodes (Limit count) run = run
-runs_anyway bounds nodes (Stats aggregates groups) run = run
-runs_anyway bounds nodes (Dissect node input cutter pattern separator to) run = record { reading = run.reading; read = run.read; cutter = run.cutter; below = run.below }
-runs_anyway bounds nodes (Grok node input cutter pattern to) run = record { reading = run.reading; read = run.read; cutter = run.cutter; below = run.below }
-runs_anyway bounds nodes (Enrich policy on fields to) run = record { policy = run.policy; is = run.is; below = run.below }
+runs_anyway : (bounds : Bounds) (step : Step) → CanRun bounds step → CanRun (unnumbered bounds) step
+runs_anyway bounds (Eval to expr) run = run
+runs_anyway bounds (Filter node condition) run = run
+runs_anyway bounds (Expand id to) run = run
+runs_anyway bounds (Sort keys) run = run
+runs_anyway bounds (TopN keys count) run = run
+runs_anyway bounds (Limit count) run = run
+runs_anyway bounds (Stats aggregates groups) run = run
+runs_anyway bounds (Dissect node input cutter pattern separator to) run = record { reading = run.reading; read = run.read; cutter = run.cutter }
+runs_anyway bounds (Grok node input cutter pattern to) run = record { reading = run.reading; read = run.read; cutter = run.cutter }
+runs_anyway bounds (Enrich policy on fields to) run = record { policy = run.policy; is = run.is }
 
-pub all_run_anyway : (bounds : Bounds) (nodes : ℕ) (steps : List Step) → All (CanRun bounds) steps → All (CanRun (with_nodes bounds nodes)) steps
-all_run_anyway bounds nodes steps run = All-weaker (CanRun bounds) (CanRun (with_nodes bounds nodes)) (runs_anyway bounds nodes) steps run
+pub all_run_anyway : (bounds : Bounds) (steps : List Step) → All (CanRun bounds) steps → All (CanRun (unnumbered bounds)) steps
+all_run_anyway bounds steps run = All-weaker (CanRun bounds) (CanRun (unnumbered bounds)) (runs_anyway bounds) steps run
 
 pub all_run : (bounds : Bounds) (output : List OutColumn) (made : List MadeColumn) (steps : List Step) → StepsStand bounds output made steps
     → All (CanRun bounds) steps

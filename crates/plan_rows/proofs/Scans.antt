@@ -1,9 +1,9 @@
 -- The rows that a scan takes of tables.
-use Rattle.std.proofs.Common.{◌≡◌, ℕ, zero, suc, ◌+◌, ◌<◌, Bool, true, false, List, [], ◌∷◌, ◌++◌, length, get_or, set, replicate, map, All, Option, Some, None, refl, ap, sym, subst, ◌∙◌, arith, zero-add}
+use Rattle.std.proofs.Common.{◌≡◌, ℕ, zero, suc, ◌+◌, ◌<◌, Bool, true, false, List, [], ◌∷◌, ◌++◌, length, get_or, set, replicate, map, All, Option, Some, None, refl, ap, sym, ◌∙◌, arith, zero-add}
 use Rattle.std.specs.Prelude.{if◌then◌else◌, slice_get}
 use Rattle.std.specs.Str.{bytes_eq}
 use Rattle.std.proofs.lemmas.List.{length-set, length-map, length-replicate, map-set, map-append, append-nil}
-use Rattle.std.proofs.lemmas.List.Elements.{All-nil, All-cons, All-head, All-tail, All-append}
+use Rattle.std.proofs.lemmas.List.Elements.{All-head, All-tail}
 use Rattle.esql_types.specs.declared.value.Value.{Value}
 use Rattle.esql_types.specs.declared.names.Column.{Column}
 use Rattle.esql_plan.specs.declared.catalog.TableShape.{TableShape}
@@ -12,7 +12,7 @@ use Rattle.esql_plan.specs.Values.{NumberedRow}
 use Rattle.esql_scalar.specs.Rows.{row_of}
 use Rattle.plan_semantics.specs.Tables.{TableHeld, cell_named, empty_row, with_cell, scan_row, scan_table}
 use Rattle.plan_rows.specs.Held.{shapes_held}
-use Rattle.plan_rows.specs.Kept.{rows_of, AreWide}
+use Rattle.plan_rows.specs.Kept.{rows_of}
 use Rattle.plan_rows.specs.Places.{place_from, places_of, cell_in, cells_in}
 use Rattle.plan_rows.proofs.NumberedRows.{row_of-nulls, row_of-set}
 
@@ -110,23 +110,10 @@ without_rows (one ∷ shapes) (these ∷ tables) zero none = absurd cc
 without_rows (one ∷ shapes) (these ∷ tables) (suc number) none = without_rows shapes tables number none
 
 -- the rows of a table behind those before
-abbrev IsLong : ℕ → List (List Value) → Type 0
-IsLong count row = length row ≡ count
-
-all_long : (count : ℕ) (scanned : List ScanColumn) (columns : List Column) (table : List (List (List Value))) → AreWide count (map (cells_in (places_of count scanned columns)) table)
-all_long count scanned columns [] = All-nil (IsLong count)
-all_long count scanned columns (cells ∷ table) =
-    All-cons (IsLong count) (cells_in (places_of count scanned columns) cells) (map (cells_in (places_of count scanned columns)) table)
-    (length-cells_in count scanned columns cells) (all_long count scanned columns table)
-
 module _ (count : ℕ) (scanned : List ScanColumn) (shape : TableShape) (before table after : List (List (List Value))) (places : List (Option ℕ))
     (are : places ≡ places_of count scanned shape.columns) (made : after ≡ before ++ map (cells_in places) table) where
   made_so : after ≡ before ++ map (cells_in (places_of count scanned shape.columns)) table
   made_so = made ∙ ap (λ (these : List (Option ℕ)). before ++ map (cells_in these) table) are
-
-  pub wide_more : AreWide count before → AreWide count after
-  wide_more wide = subst (AreWide count) (sym made_so)
-      (All-append (IsLong count) before (map (cells_in (places_of count scanned shape.columns)) table) wide (all_long count scanned shape.columns table))
 
   pub rows_more : All (IsScannedBelow count) scanned → (held : Option TableHeld) → held ≡ Some (record { shape = shape; rows = table })
       → rows_of after ≡ rows_of before ++ scan_table scanned held

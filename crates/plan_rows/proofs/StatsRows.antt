@@ -1,13 +1,11 @@
 -- The rows of groups as they are kept are those of numbered columns.
-use Rattle.std.proofs.Common.{◌≡◌, ℕ, ◌<◌, ◌≤◌, ◌==◌, Bool, true, false, List, [], ◌∷◌, ◌++◌, length, set, replicate, map, All, append_assoc, refl, ap, sym, subst, ◌∙◌, arith}
-use Rattle.std.specs.Prelude.{◌||◌, Option, Some, None, if◌then◌else◌}
+use Rattle.std.proofs.Common.{◌≡◌, ℕ, ◌==◌, Bool, true, false, List, [], ◌∷◌, ◌++◌, length, map, append_assoc, refl, ap, sym, ◌∙◌, arith}
+use Rattle.std.specs.Prelude.{Option, Some, None, if◌then◌else◌}
 use Rattle.std.specs.Option.{option_map}
-use Rattle.std.specs.List.{AllByRecursion, list_any}
+use Rattle.std.specs.List.{AllByRecursion}
 use Rattle.std.proofs.lemmas.Bool.Decides.{nat_tests}
-use Rattle.std.proofs.lemmas.List.{append-nil, length-set, length-replicate, length-map, length-append}
-use Rattle.std.proofs.lemmas.List.Elements.{All-nil, All-cons, All-head, All-tail, All-weaker}
+use Rattle.std.proofs.lemmas.List.{append-nil}
 use Rattle.std.proofs.lemmas.Map.Keys.{IsDistinct-head, IsDistinct-tail}
-use Rattle.std.proofs.lemmas.Map.Steps.{length-le_from_distinct_below}
 use Rattle.esql_types.specs.declared.value.Value.{Value}
 use Rattle.esql_types.specs.declared.cause.Failure.{Failure}
 use Rattle.esql_types.specs.declared.names.ColId.{ColId}
@@ -19,14 +17,11 @@ use Rattle.plan_semantics.specs.Groups.{Entry, rows_of_groups, failures_of_group
 use Rattle.plan_semantics.specs.Tables.{empty_row, with_cell}
 use Rattle.plan_semantics.specs.Stats.{entry_of, entries_of, row_of_columns, stats_columns, stats_rows, stats_failures}
 use Rattle.stats_groups.specs.Entries.{entry_of_row}
-use Rattle.stats_groups.specs.Grouped.{Grouped, with_entry, rows_grouped, failures_grouped}
-use Rattle.plan_semantics.specs.WellFormed.{AreOnce, Bounds, MadeColumn, MakesNew, StatsStand}
-use Rattle.plan_rows.specs.Kept.{rows_of, AreWide, kept_columns, kept_stats}
-use Rattle.plan_rows.specs.Runs.{StatsRun}
-use Rattle.plan_rows.proofs.NumberedRows.{row_of-nulls, row_of-set}
-
-abbrev IsBelow : ℕ → ColId → Type 0
-IsBelow columns to = to.0 < columns
+use Rattle.stats_groups.specs.Cells.{put_cell, put_cells}
+use Rattle.stats_groups.specs.Grouped.{Grouped, with_entry, rows_made, rows_grouped, failures_grouped}
+use Rattle.plan_semantics.specs.WellFormed.{AreOnce}
+use Rattle.plan_rows.specs.Kept.{rows_of, kept_stats}
+use Rattle.plan_rows.proofs.NumberedRows.{row_of-put}
 
 abbrev same_number : ℕ → ℕ → Bool
 same_number this that = this == that
@@ -40,12 +35,11 @@ placed row [] cells = row
 placed row (to ∷ columns) [] = row
 placed row (to ∷ columns) (cell ∷ cells) = placed (with_cell row to.0 cell) columns cells
 
-kept_placed : (made : List ColId) (cells row : List (List Value)) → All (IsBelow (length row)) made → row_of (kept_columns row made cells) ≡ placed (row_of row) made cells
-kept_placed [] cells row below = refl
-kept_placed (to ∷ made) [] row below = refl
-kept_placed (to ∷ made) (cell ∷ cells) row below =
-    kept_placed made cells (set row to.0 cell) (subst (λ (wide : ℕ). All (IsBelow wide) made) (sym (length-set row to.0 cell)) (All-tail (IsBelow (length row)) to made below))
-    ∙ ap (λ (these : NumberedRow). placed these made cells) (row_of-set row to.0 cell (All-head (IsBelow (length row)) to made below))
+kept_placed : (made : List ColId) (cells row : List (List Value)) → row_of (put_cells row made cells) ≡ placed (row_of row) made cells
+kept_placed [] cells row = refl
+kept_placed (to ∷ made) [] row = refl
+kept_placed (to ∷ made) (cell ∷ cells) row =
+    kept_placed made cells (put_cell row to.0 cell) ∙ ap (λ (these : NumberedRow). placed these made cells) (row_of-put row to.0 cell)
 
 -- a cell at one column and one at another
 cell_apart : (row : NumberedRow) (this that other : ℕ) (first second : List Value) → this == that ≡ false
@@ -74,74 +68,17 @@ placed_columns (to ∷ made) (cell ∷ cells) once =
     ∙ ap (λ (row : NumberedRow). with_cell row to.0 cell) (placed_columns made cells (IsDistinct-tail same_number to.0 (map number_of made) once))
 
 -- the row of a group
-kept_row : (columns : ℕ) (made : List ColId) (cells : List (List Value)) → All (IsBelow columns) made → AreOnce made
-    → row_of (kept_columns (replicate columns []) made cells) ≡ row_of_columns made cells
-kept_row columns made cells below once =
-    kept_placed made cells (replicate columns []) (subst (λ (wide : ℕ). All (IsBelow wide) made) (sym (length-replicate columns [])) below)
-    ∙ ap (λ (row : NumberedRow). placed row made cells) (row_of-nulls columns)
-    ∙ placed_columns made cells once
+kept_row : (made : List ColId) (cells : List (List Value)) → AreOnce made → row_of (put_cells [] made cells) ≡ row_of_columns made cells
+kept_row made cells once = kept_placed made cells [] ∙ placed_columns made cells once
 
-kept_each : (columns : ℕ) (made : List ColId) (rows : List (List (List Value))) → All (IsBelow columns) made → AreOnce made
-    → map row_of (map (kept_columns (replicate columns []) made) rows) ≡ map (row_of_columns made) rows
-kept_each columns made [] below once = refl
-kept_each columns made (cells ∷ rows) below once = λ i. kept_row columns made cells below once i ∷ kept_each columns made rows below once i
+kept_each : (made : List ColId) (rows : List (List (List Value))) → AreOnce made → map row_of (map (put_cells [] made) rows) ≡ map (row_of_columns made) rows
+kept_each made [] once = refl
+kept_each made (cells ∷ rows) once = λ i. kept_row made cells once i ∷ kept_each made rows once i
 
 -- the rows of groups
-pub rows_of-stats : (columns : ℕ) (aggregates : List Aggregate) (groups : List GroupColumn) → StatsRun columns aggregates groups → (rows : List (List (List Value)))
-    → rows_of (kept_stats columns aggregates groups rows) ≡ stats_rows aggregates groups (rows_of rows)
-rows_of-stats columns aggregates groups run rows =
-    kept_each columns (stats_columns aggregates groups) (rows_of_groups (length groups) aggregates (entries_of aggregates groups (rows_of rows))) run.below run.once
-
-length-kept : (made : List ColId) (cells row : List (List Value)) → length (kept_columns row made cells) ≡ length row
-length-kept [] cells row = refl
-length-kept (to ∷ made) [] row = refl
-length-kept (to ∷ made) (cell ∷ cells) row = length-kept made cells (set row to.0 cell) ∙ length-set row to.0 cell
-
-abbrev IsWide : ℕ → List (List Value) → Type 0
-IsWide columns row = length row ≡ columns
-
-each_wide : (columns : ℕ) (made : List ColId) (rows : List (List (List Value))) → AreWide columns (map (kept_columns (replicate columns []) made) rows)
-each_wide columns made [] = All-nil (IsWide columns)
-each_wide columns made (cells ∷ rows) =
-    All-cons (IsWide columns) (kept_columns (replicate columns []) made cells) (map (kept_columns (replicate columns []) made) rows)
-    (length-kept made cells (replicate columns []) ∙ length-replicate columns []) (each_wide columns made rows)
-
--- they are as wide as all rows
-pub wide-stats : (columns : ℕ) (aggregates : List Aggregate) (groups : List GroupColumn) (rows : List (List (List Value))) → AreWide columns (kept_stats columns aggregates groups rows)
-wide-stats columns aggregates groups rows = each_wide columns (stats_columns aggregates groups) (rows_of_groups (length groups) aggregates (entries_of aggregates groups (rows_of rows)))
-
--- a number among those of columns below another is below it
-below_all : (columns : ℕ) (made : List ColId) → All (IsBelow columns) made → (number : ℕ) → list_any (λ other. number == other) (map number_of made) ≡ true → number < columns
-below_all columns [] all number is = absurd (let no : false ≡ true = is in cc)
-below_all columns (to ∷ made) all number is =
-    by_case (number == to.0) refl (below_all columns made (All-tail (IsBelow columns) to made all) number) is
-  where
-    by_case : (b : Bool) → number == to.0 ≡ b → (list_any (λ other. number == other) (map number_of made) ≡ true → number < columns)
-        → b || list_any (λ other. number == other) (map number_of made) ≡ true → number < columns
-    by_case true same later any =
-        let here : to.0 < columns = All-head (IsBelow columns) to made all in
-        grind (arith, nat_tests, same, here)
-    by_case false same later any = later any
-
--- columns that differ, each below a number, are not more than that
-few_columns : (made : List ColId) (columns : ℕ) → AreOnce made → All (IsBelow columns) made → length made ≤ columns
-few_columns made columns once below =
-    subst (λ (count : ℕ). count ≤ columns) (length-map made number_of) (length-le_from_distinct_below (map number_of made) columns once (below_all columns made below))
-
--- Stats of a well formed plan can be run
-pub stats_run : (bounds : Bounds) (made : List MadeColumn) (aggregates : List Aggregate) (groups : List GroupColumn) → StatsStand bounds made aggregates groups
-    → StatsRun bounds.columns aggregates groups
-stats_run bounds made aggregates groups stands =
-    let below = All-weaker (MakesNew bounds made) (IsBelow bounds.columns) (λ to new. new.below) (stats_columns aggregates groups) stands.new in
-    let few = few_columns (stats_columns aggregates groups) bounds.columns stands.once below in
-    let all = length-append (map (λ (aggregate : Aggregate). aggregate.to) aggregates) (map (λ (group : GroupColumn). group.to) groups) in
-    let own = length-map groups (λ (group : GroupColumn). group.to) in
-    record { few = omega (arith, few, all, own); below = below; once = stands.once }
-
--- no cells are put anywhere
-pub kept_nothing : (row : List (List Value)) (made : List ColId) → kept_columns row made [] ≡ row
-kept_nothing row [] = refl
-kept_nothing row (to ∷ made) = refl
+pub rows_of-stats : (aggregates : List Aggregate) (groups : List GroupColumn) → AreOnce (stats_columns aggregates groups) → (rows : List (List (List Value)))
+    → rows_of (kept_stats aggregates groups rows) ≡ stats_rows aggregates groups (rows_of rows)
+rows_of-stats aggregates groups once rows = kept_each (stats_columns aggregates groups) (rows_of_groups (length groups) aggregates (entries_of aggregates groups (rows_of rows))) once
 
 -- what groups look at in rows as they are kept
 entries_kept : (aggregates : List Aggregate) (groups : List GroupColumn) (rows : List (List (List Value)))
@@ -197,9 +134,9 @@ value_or other (Some item) = item
 -- the rows that groups give
 pub rows_given : (aggregates : List Aggregate) (groups : List GroupColumn) (rows cells : List (List (List Value))) (grouped : Grouped)
     → grouped ≡ grouped_rows aggregates groups rows → Some cells ≡ rows_grouped grouped
-    → cells ≡ rows_of_groups (length groups) aggregates (entries_of aggregates groups (rows_of rows))
+    → cells ≡ kept_stats aggregates groups rows
 rows_given aggregates groups rows cells grouped same given =
-    ap (value_or cells) (given ∙ ap rows_grouped same) ∙ ap (rows_of_groups (length groups) aggregates) (entries_kept aggregates groups rows)
+    ap (value_or cells) (given ∙ ap rows_grouped same) ∙ ap (rows_made groups aggregates) (entries_kept aggregates groups rows)
 
 -- the failures that they give, behind none
 pub failures_given : (aggregates : List Aggregate) (groups : List GroupColumn) (rows : List (List (List Value))) (before failures : List Failure) (grouped : Grouped)

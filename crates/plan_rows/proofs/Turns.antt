@@ -3,17 +3,14 @@ use Rattle.std.proofs.Common.{◌≡◌, ℕ, suc, ◌+◌, ◌<◌, List, ◌�
 use Rattle.esql_types.specs.declared.value.Value.{Value}
 use Rattle.esql_types.specs.declared.cause.Cause.{Cause}
 use Rattle.esql_types.specs.declared.cause.Failure.{Failure}
-use Rattle.esql_plan.specs.declared.catalog.Catalog.{Catalog}
-use Rattle.esql_plan.specs.declared.plan.PlanSource.{PlanSource}
-use Rattle.esql_plan.specs.declared.plan.PlanSource.TheVariants.{OneRow, Scan}
 use Rattle.esql_plan.specs.declared.step.Step.{Step}
 use Rattle.esql_plan.specs.Values.{NumberedRow}
 use Rattle.plan_semantics.specs.Steps.{step_rows, step_failures, rows_after, failures_after}
 use Rattle.plan_semantics.specs.Tables.{CatalogHeld}
-use Rattle.plan_semantics.specs.WellFormed.{Bounds, SourceStands}
+use Rattle.plan_semantics.specs.WellFormed.{Bounds}
 use Rattle.warn_log.specs.Logs.{logged}
-use Rattle.plan_rows.specs.Kept.{rows_of, AreWide, kept_rows, kept_failures}
-use Rattle.plan_rows.specs.Runs.{CanRun, IsScanBelow}
+use Rattle.plan_rows.specs.Kept.{rows_of, kept_rows, kept_failures}
+use Rattle.plan_rows.specs.Runs.{CanRun}
 use Rattle.plan_rows.proofs.KeptSteps.{rows_of-step, failures_of-step}
 use Rattle.plan_rows.proofs.ListTurns.{logged-append}
 
@@ -24,9 +21,9 @@ next_step steps place step within is =
     ∙ ap (λ next. step ∷ drop next steps) (sym (add-one place))
 
 module _ (held : CatalogHeld) (bounds : Bounds) (steps : List Step) (place : ℕ) (step : Step) (rows new : List (List (List Value)))
-    (within : place < length steps) (is : step ≡ get_or steps place step) (run : CanRun bounds step) (wide : AreWide bounds.columns rows) (made : new ≡ kept_rows held bounds.columns step rows) where
+    (within : place < length steps) (is : step ≡ get_or steps place step) (run : CanRun bounds step) (made : new ≡ kept_rows held step rows) where
   new_rows : rows_of new ≡ step_rows held step (rows_of rows)
-  new_rows = ap rows_of made ∙ rows_of-step held bounds step run rows wide
+  new_rows = ap rows_of made ∙ rows_of-step held bounds step run rows
 
   pub rows_turn : rows_after held (drop (place + 1) steps) (rows_of new) ≡ rows_after held (drop place steps) (rows_of rows)
   rows_turn =
@@ -41,7 +38,3 @@ module _ (held : CatalogHeld) (bounds : Bounds) (steps : List Step) (place : ℕ
       ∙ ap (λ (these : List Failure). logged (logged before these) (failures_after held (drop (place + 1) steps) (step_rows held step (rows_of rows)))) (failures_of-step step rows)
       ∙ logged-append before (step_failures step (rows_of rows)) (failures_after held (drop (place + 1) steps) (step_rows held step (rows_of rows)))
       ∙ ap (λ (these : List Step). logged before (failures_after held these (rows_of rows))) (sym (next_step steps place step within is))
-
-pub scan_below : (catalog : Catalog) (bounds : Bounds) (source : PlanSource) → SourceStands catalog bounds source → IsScanBelow bounds.columns source
-scan_below catalog bounds OneRow stands = tt
-scan_below catalog bounds (Scan numbers columns) stands = stands.below

@@ -1,5 +1,5 @@
--- The steps of a plan on rows as they are kept, with a cell for each column number.
-use Rattle.std.specs.Prelude.{◌≡◌, ℕ, List, [], ◌∷◌, ◌++◌, Option, Some, None, map, take, replicate, length, All, slice_index_or, slice_set, if◌then◌else◌}
+-- The steps of a plan on rows as they are kept: cells in the order of the column numbers, with null behind the last.
+use Rattle.std.specs.Prelude.{ℕ, List, [], ◌∷◌, ◌++◌, Option, Some, None, map, take, length, slice_index_or, if◌then◌else◌}
 use Rattle.std.specs.List.{flat_map}
 use Rattle.std.specs.declared.cmp.Ordering.{Ordering}
 use Rattle.esql_types.specs.declared.value.Value.{Value}
@@ -21,19 +21,16 @@ use Rattle.plan_semantics.specs.Taken.{Taken, dissected, grokked, enriched}
 use Rattle.plan_semantics.specs.Groups.{rows_of_groups}
 use Rattle.plan_semantics.specs.Stats.{entries_of, stats_columns, stats_failures}
 use Rattle.plan_semantics.specs.Steps.{is_true, step_fails}
+use Rattle.stats_groups.specs.Cells.{put_cell, put_cells}
 
 -- rows of cells in the order of the column numbers
 abbrev pub rows_of : List (List (List Value)) → List NumberedRow
 rows_of rows = map row_of rows
 
--- each row has so many cells
-abbrev pub AreWide : ℕ → List (List (List Value)) → Type 0
-AreWide columns rows = All (λ row. length row ≡ columns) rows
-
 -- a row for each value, with that value alone at the column number; one row, with null there, where there is none
 abbrev pub expanded_cells : List (List Value) → ℕ → List Value → List (List (List Value))
-expanded_cells row id [] = slice_set row id [] ∷ []
-expanded_cells row id (value ∷ values) = map (λ one. slice_set row id (one ∷ [])) (value ∷ values)
+expanded_cells row id [] = put_cell row id [] ∷ []
+expanded_cells row id (value ∷ values) = map (λ one. put_cell row id (one ∷ [])) (value ∷ values)
 
 -- the values of another cell, if there is one, behind those of a cell
 abbrev pub values_behind : List Value → Option (List Value) → List Value
@@ -43,12 +40,12 @@ values_behind cell (Some other) = cell ++ other
 -- the row with a cell in each of new columns; null where there is none for it
 abbrev pub kept_new : List (List Value) → List NewColumn → List (List Value) → List (List Value)
 kept_new row [] cells = row
-kept_new row (new ∷ more) [] = kept_new (slice_set row new.id.0 []) more []
-kept_new row (new ∷ more) (cell ∷ cells) = kept_new (slice_set row new.id.0 cell) more cells
+kept_new row (new ∷ more) [] = kept_new (put_cell row new.id.0 []) more []
+kept_new row (new ∷ more) (cell ∷ cells) = kept_new (put_cell row new.id.0 cell) more cells
 
 -- the row with the value of an expression in a column
 abbrev pub kept_eval : ColId → TypedExpr → List (List Value) → List (List (List Value))
-kept_eval to expr row = slice_set row to.0 (value_of_typed expr (row_of row)).cell ∷ []
+kept_eval to expr row = put_cell row to.0 (value_of_typed expr (row_of row)).cell ∷ []
 
 -- the row where a condition is true on it
 abbrev pub kept_if : TypedExpr → List (List Value) → List (List (List Value))
@@ -83,29 +80,22 @@ kept_gives held (Enrich policy on fields to) row = kept_enriched (enriched held 
 abbrev pub order_of_kept : List PlanKey → List (List Value) → List (List Value) → Ordering
 order_of_kept keys this that = order_of_rows keys (row_of this) (row_of that)
 
--- a row with these cells at these columns
-abbrev pub kept_columns : List (List Value) → List ColId → List (List Value) → List (List Value)
-kept_columns row [] cells = row
-kept_columns row (to ∷ columns) [] = row
-kept_columns row (to ∷ columns) (cell ∷ cells) = kept_columns (slice_set row to.0 cell) columns cells
-
 -- a row for each group, with null in every column that is not made
-abbrev pub kept_stats : ℕ → List Aggregate → List GroupColumn → List (List (List Value)) → List (List (List Value))
-kept_stats columns aggregates groups rows =
-    map (kept_columns (replicate columns []) (stats_columns aggregates groups)) (rows_of_groups (length groups) aggregates (entries_of aggregates groups (rows_of rows)))
+abbrev pub kept_stats : List Aggregate → List GroupColumn → List (List (List Value)) → List (List (List Value))
+kept_stats aggregates groups rows = map (put_cells [] (stats_columns aggregates groups)) (rows_of_groups (length groups) aggregates (entries_of aggregates groups (rows_of rows)))
 
--- the rows after a step, of rows that have so many columns
-abbrev pub kept_rows : CatalogHeld → ℕ → Step → List (List (List Value)) → List (List (List Value))
-kept_rows held columns (Eval to expr) rows = flat_map (kept_gives held (Eval to expr)) rows
-kept_rows held columns (Filter node condition) rows = flat_map (kept_gives held (Filter node condition)) rows
-kept_rows held columns (Expand id to) rows = flat_map (kept_gives held (Expand id to)) rows
-kept_rows held columns (Sort keys) rows = sorted_by (order_of_kept keys) rows
-kept_rows held columns (TopN keys count) rows = take count (sorted_by (order_of_kept keys) rows)
-kept_rows held columns (Limit count) rows = take count rows
-kept_rows held columns (Stats aggregates groups) rows = kept_stats columns aggregates groups rows
-kept_rows held columns (Dissect node input cutter pattern separator to) rows = flat_map (kept_gives held (Dissect node input cutter pattern separator to)) rows
-kept_rows held columns (Grok node input cutter pattern to) rows = flat_map (kept_gives held (Grok node input cutter pattern to)) rows
-kept_rows held columns (Enrich policy on fields to) rows = flat_map (kept_gives held (Enrich policy on fields to)) rows
+-- the rows after a step
+abbrev pub kept_rows : CatalogHeld → Step → List (List (List Value)) → List (List (List Value))
+kept_rows held (Eval to expr) rows = flat_map (kept_gives held (Eval to expr)) rows
+kept_rows held (Filter node condition) rows = flat_map (kept_gives held (Filter node condition)) rows
+kept_rows held (Expand id to) rows = flat_map (kept_gives held (Expand id to)) rows
+kept_rows held (Sort keys) rows = sorted_by (order_of_kept keys) rows
+kept_rows held (TopN keys count) rows = take count (sorted_by (order_of_kept keys) rows)
+kept_rows held (Limit count) rows = take count rows
+kept_rows held (Stats aggregates groups) rows = kept_stats aggregates groups rows
+kept_rows held (Dissect node input cutter pattern separator to) rows = flat_map (kept_gives held (Dissect node input cutter pattern separator to)) rows
+kept_rows held (Grok node input cutter pattern to) rows = flat_map (kept_gives held (Grok node input cutter pattern to)) rows
+kept_rows held (Enrich policy on fields to) rows = flat_map (kept_gives held (Enrich policy on fields to)) rows
 
 -- the failures of a step row after row, those of Stats group after group
 abbrev pub kept_failures : Step → List (List (List Value)) → List Failure

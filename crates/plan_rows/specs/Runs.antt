@@ -1,14 +1,9 @@
 -- What a step needs to be run.
-use Rattle.std.specs.Prelude.{◌≡◌, ℕ, ◌<◌, ◌≤◌, List, All, length, Some, slice_get}
+use Rattle.std.specs.Prelude.{◌≡◌, ℕ, List, Some, slice_get}
 use Rattle.esql_types.specs.declared.value.Value.{Value}
-use Rattle.esql_types.specs.declared.names.ColId.{ColId}
 use Rattle.esql_plan.specs.declared.catalog.PolicyShape.{PolicyShape}
-use Rattle.esql_plan.specs.declared.plan.PlanSource.{PlanSource}
-use Rattle.esql_plan.specs.declared.plan.PlanSource.TheVariants.{OneRow, Scan}
-use Rattle.esql_plan.specs.declared.plan.ScanColumn.{ScanColumn}
 use Rattle.esql_plan.specs.declared.step.Aggregate.{Aggregate}
 use Rattle.esql_plan.specs.declared.step.GroupColumn.{GroupColumn}
-use Rattle.esql_plan.specs.declared.step.NewColumn.{NewColumn}
 use Rattle.esql_plan.specs.declared.step.Step.{Step}
 use Rattle.esql_plan.specs.declared.step.Step.TheVariants.{Eval, Filter, Sort, TopN, Limit, Expand, Stats, Dissect, Grok, Enrich}
 use Rattle.esql_plan.specs.Fits.{ExprFits}
@@ -22,10 +17,6 @@ use Rattle.plan_semantics.specs.Taken.{Taken}
 use Rattle.plan_semantics.specs.Stats.{stats_columns, stats_failures}
 use Rattle.plan_semantics.specs.Steps.{step_fails}
 use Rattle.plan_semantics.specs.WellFormed.{Bounds, AreOnce}
-
--- the rows have a cell of the column number
-abbrev pub HaveCell : ColId → List (List (List Value)) → Type 0
-HaveCell to rows = All (λ row. to.0 < length row) rows
 
 -- on each row, a step fails at nodes below a number
 abbrev pub FailsBelow : ℕ → Step → Type 0
@@ -48,58 +39,36 @@ StatsFailBelow nodes (Dissect node input cutter pattern separator to) = Unit {0}
 StatsFailBelow nodes (Grok node input cutter pattern to) = Unit {0}
 StatsFailBelow nodes (Enrich policy on fields to) = Unit {0}
 
--- the columns that Stats makes differ and are below a number, and rows are not grouped by more columns than that
-pub record StatsRun (columns : ℕ) (aggregates : List Aggregate) (groups : List GroupColumn) : Type 0 where
-  pub few : length groups ≤ columns
-  pub below : All (λ to. to.0 < columns) (stats_columns aggregates groups)
-  pub once : AreOnce (stats_columns aggregates groups)
-
--- new columns are below a number
-abbrev pub AreNewBelow : ℕ → List NewColumn → Type 0
-AreNewBelow columns to = All (λ (new : NewColumn). new.id.0 < columns) to
-
--- the rows have a cell of each new column
-abbrev pub HaveNew : List NewColumn → List (List (List Value)) → Type 0
-HaveNew to rows = All (λ row. AreNewBelow (length row) to) rows
-
 -- what a cell gives fails at nodes below a number
 abbrev pub TakenBelow : ℕ → (List Value → Taken) → Type 0
 TakenBelow nodes take = (cell : List Value) → AreBelow nodes (take cell).failures
 
 -- a number of a cutter has what the pattern of DISSECT is read as
-pub record DissectRun (bounds : Bounds) (number : ℕ) (pattern separator : List ℕ) (to : List NewColumn) : Type 0 where
+pub record DissectRun (bounds : Bounds) (number : ℕ) (pattern separator : List ℕ) : Type 0 where
   pub reading : Reading
   pub read : reading_of pattern separator ≡ Some reading
   pub cutter : slice_get bounds.cutters number ≡ Some (cutter.Dissect reading)
-  pub below : AreNewBelow bounds.columns to
 
 -- a number of a cutter has what the pattern of GROK is read as
-pub record GrokRun (bounds : Bounds) (number : ℕ) (pattern : List ℕ) (to : List NewColumn) : Type 0 where
+pub record GrokRun (bounds : Bounds) (number : ℕ) (pattern : List ℕ) : Type 0 where
   pub reading : GrokRead
   pub read : grok_of pattern ≡ Some reading
   pub cutter : slice_get bounds.cutters number ≡ Some (cutter.Grok reading)
-  pub below : AreNewBelow bounds.columns to
 
 -- the policy of a number is there
-pub record EnrichRun (bounds : Bounds) (number : ℕ) (to : List NewColumn) : Type 0 where
+pub record EnrichRun (bounds : Bounds) (number : ℕ) : Type 0 where
   pub policy : PolicyShape
   pub is : slice_get bounds.catalog.policies number ≡ Some policy
-  pub below : AreNewBelow bounds.columns to
 
--- The expression of a step fits the patterns, its cutter and its policy are there, and the columns that it makes are below a number.
+-- The expression of a step fits the patterns, its cutter and its policy are there, and the columns that Stats makes differ.
 abbrev pub CanRun : Bounds → Step → Type 0
-CanRun bounds (Eval to expr) = ExprFits bounds.whole bounds.free expr × (to.0 < bounds.columns)
+CanRun bounds (Eval to expr) = ExprFits bounds.whole bounds.free expr
 CanRun bounds (Filter node condition) = ExprFits bounds.whole bounds.free condition
-CanRun bounds (Expand id to) = to.0 < bounds.columns
+CanRun bounds (Expand id to) = Unit {0}
 CanRun bounds (Sort keys) = Unit {0}
 CanRun bounds (TopN keys count) = Unit {0}
 CanRun bounds (Limit count) = Unit {0}
-CanRun bounds (Stats aggregates groups) = StatsRun bounds.columns aggregates groups
-CanRun bounds (Dissect node input number pattern separator to) = DissectRun bounds number pattern separator to
-CanRun bounds (Grok node input number pattern to) = GrokRun bounds number pattern to
-CanRun bounds (Enrich policy on fields to) = EnrichRun bounds policy to
-
--- the columns of a scan are below a number
-abbrev pub IsScanBelow : ℕ → PlanSource → Type 0
-IsScanBelow columns OneRow = Unit {0}
-IsScanBelow columns (Scan tables scanned) = All (λ (column : ScanColumn). column.to.0 < columns) scanned
+CanRun bounds (Stats aggregates groups) = AreOnce (stats_columns aggregates groups)
+CanRun bounds (Dissect node input number pattern separator to) = DissectRun bounds number pattern separator
+CanRun bounds (Grok node input number pattern to) = GrokRun bounds number pattern
+CanRun bounds (Enrich policy on fields to) = EnrichRun bounds policy

@@ -4,14 +4,14 @@ use Rattle.plan_semantics.specs.WellFormed.{Bounds}
 use Rattle.plan_rows.specs.declared.run.Setting.{Setting}
 use Rattle.plan_rows.specs.Held.{tables_held}
 
--- its catalog, patterns and cutters, and the number of its columns; no number of nodes bounds what can be run
+-- its catalog, patterns and cutters; no number of columns or of nodes bounds what can be run
 abbrev pub bounds_over : Setting → Bounds
 bounds_over setting = record {
   catalog = setting.catalog.now;
   whole = setting.patterns.now.whole;
   free = setting.patterns.now.free;
   cutters = setting.cutters.now;
-  columns = setting.columns;
+  columns = 0;
   nodes = 0;
 }
 

@@ -11,14 +11,14 @@ ghost use Rattle.plan_semantics.specs.Taken.{dissected_by, grokked_by, converted
 ghost use Rattle.scalar_functions.specs.Taken.{branches_of};
 ghost use Rattle.warn_log.specs.Logs.{logged};
 ghost use Rattle.plan_rows.specs.Kept.{kept_taken, kept_new, values_behind};
-ghost use Rattle.plan_rows.specs.Runs.{AreNewBelow, HaveNew, TakenBelow};
+ghost use Rattle.plan_rows.specs.Runs.{TakenBelow};
 
-use crate::source::nulls;
 use crate::steps::note_failures;
 use dissect_grok::{Cutter, Dissect, Grok};
 use esql_plan::{Function, NewColumn};
 use esql_types::{Cell, ColId, Column, Failure, Kind, NodeId, Seq, Text, Value};
 use scalar_functions::apply;
+use stats_groups::put_cell;
 use std::alloc::{AllocError, Global};
 use text_match::Patterns;
 use warn_log::Log;
@@ -53,13 +53,12 @@ pub(crate) fn dissect_rows(
     to: &[NewColumn],
     rows: Seq<Seq<Cell>>,
 ) -> Result<Seq<Seq<Cell>>, AllocError>
-    requires { HaveNew to.now rows }
     ensures { IfOk result (λ new. new ≡ flat_map (kept_taken (λ count cell. taken_of_cell count (dissected_by (Some dissect.now)) cell) input to.now) rows) }
 {
     let mut new = Seq::new(alloc);
     for row in rows.into_vec() {
         let cells = dissect_row(alloc, input, dissect, to.len(), &row)?;
-        new.push(put_new(alloc, row, to, cells))?;
+        new.push(put_new(alloc, row, to, cells)?)?;
     }
     Ok(new)
 }
@@ -130,8 +129,7 @@ pub(crate) fn grok_rows(
     patterns: &Patterns,
     log: &mut Log,
 ) -> Result<Seq<Seq<Cell>>, AllocError>
-    requires new { HaveNew to.now rows }
-    requires fails { TakenBelow (length log.old) (taken_of_cell (length to.now) (grokked_by node (Some grok.now))) }
+    requires { TakenBelow (length log.old) (taken_of_cell (length to.now) (grokked_by node (Some grok.now))) }
     ensures rows { IfOk result (λ new. new ≡ flat_map (kept_taken (λ count cell. taken_of_cell count (grokked_by node (Some grok.now)) cell) input to.now) rows) }
     ensures log { OnOk result (log.new ≡ logged log.old (flat_map (λ row. (taken_of_cell (length to.now) (grokked_by node (Some grok.now)) (row_of row input.0)).failures) rows)) }
     ensures nodes { OnOk result (length log.new ≡ length log.old) }
@@ -139,7 +137,7 @@ pub(crate) fn grok_rows(
     let mut new = Seq::new(alloc);
     for row in rows.into_vec() {
         let cells = grok_row(alloc, node, input, grok, to.len(), &row, patterns, log)?;
-        new.push(put_new(alloc, row, to, cells))?;
+        new.push(put_new(alloc, row, to, cells)?)?;
     }
     Ok(new)
 }
@@ -331,9 +329,8 @@ pub(crate) fn put_new(
     row: Seq<Cell>,
     to: &[NewColumn],
     cells: Seq<Cell>,
-) -> Seq<Cell>
-    requires { AreNewBelow (length row) to.now }
-    ensures { result ≡ kept_new row to.now cells }
+) -> Result<Seq<Cell>, AllocError>
+    ensures { IfOk result (λ new. new ≡ kept_new row to.now cells) }
 {
     let mut row = row;
     let mut left = cells.into_vec().into_iter();
@@ -342,7 +339,7 @@ pub(crate) fn put_new(
             Some(cell) => cell,
             None => Cell::null(alloc),
         };
-        row.replace(new.id.0 as usize, cell);
+        put_cell(alloc, &mut row, new.id.0 as usize, cell)?;
     }
-    row
+    Ok(row)
 }

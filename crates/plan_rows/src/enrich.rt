@@ -11,7 +11,6 @@ ghost use Rattle.esql_plan.specs.declared.catalog.PolicyShape.{PolicyShape as Po
 ghost use Rattle.plan_rows.specs.Held.{tables_held};
 ghost use Rattle.plan_rows.specs.Kept.{kept_enriched};
 ghost use Rattle.plan_rows.specs.Places.{place_from, cell_in, cells_in};
-ghost use Rattle.plan_rows.specs.Runs.{HaveNew};
 
 use crate::cuts::put_new;
 use crate::source::{cell_in, cells_in, place_named, places_by_name, table_at};
@@ -92,7 +91,7 @@ fn add_rows(
     let places = field_places(alloc, &named, policy.fields.as_slice())?;
     for row in table {
         let cell = cell_in(alloc, row, key)?;
-        let cells = cells_in(alloc, places.as_slice(), row)?;
+        let cells = cells_in(alloc, places.as_slice(), 0, row)?;
         lookup.add(&cell, cells.as_slice())?;
     }
     Ok(())
@@ -122,13 +121,12 @@ pub(crate) fn enrich_rows(
     to: &[NewColumn],
     rows: Seq<Seq<Cell>>,
 ) -> Result<Seq<Seq<Cell>>, AllocError>
-    requires { HaveNew to.now rows }
     ensures { IfOk result (λ new. new ≡ flat_map (kept_enriched (λ cell. map (matched_cell lookup.now.rows cell) fields.now) on to.now) rows) }
 {
     let mut new = Seq::new(alloc);
     for row in rows.into_vec() {
         let cells = enrich_row(alloc, on, fields, lookup, &row)?;
-        new.push(put_new(alloc, row, to, cells))?;
+        new.push(put_new(alloc, row, to, cells)?)?;
     }
     Ok(new)
 }

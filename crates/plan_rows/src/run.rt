@@ -6,7 +6,7 @@ ghost use Rattle.plan_semantics.specs.Plans.{plan_means, shown_row};
 ghost use Rattle.plan_semantics.specs.WellFormed.{IsWellFormed, AreTables};
 ghost use Rattle.warn_log.specs.Logs.{logged};
 ghost use Rattle.plan_rows.specs.Held.{tables_held};
-ghost use Rattle.plan_rows.specs.Kept.{rows_of, AreWide, kept_rows, kept_failures};
+ghost use Rattle.plan_rows.specs.Kept.{rows_of, kept_rows, kept_failures};
 ghost use Rattle.plan_rows.specs.Settings.{bounds_over, held_by};
 ghost use Rattle.plan_rows.specs.Runs.{CanRun, FailsBelow, StatsFailBelow};
 
@@ -24,15 +24,13 @@ use std::alloc::{AllocError, Global};
 use text_match::Patterns;
 use warn_log::Log;
 
-/// What steps are run over: the catalog with its tables in order, the patterns and cutters that steps read, and how many columns
-/// each row has.
+/// What steps are run over: the catalog with its tables in order, and the patterns and cutters that steps read.
 #[derive(Clone, Copy)]
 pub(crate) struct Setting<'a> {
     pub(crate) catalog: &'a Catalog,
     pub(crate) tables: &'a [Table],
     pub(crate) patterns: &'a Patterns,
     pub(crate) cutters: &'a [Cutter],
-    pub(crate) columns: u32,
 }
 
 /// The rows that a plan shows of the tables of its catalog, step by step; what fails on the way is noted in the log.
@@ -55,19 +53,37 @@ pub fn run_plan(
     ensures log { OnOk result (log.new ≡ logged log.old (plan_means plan.now (tables_held catalog.now tables.now)).failures) }
     ensures nodes { OnOk result (length log.new ≡ length log.old) }
 {
-    let rows = source_rows(alloc, &plan.source, plan.columns, catalog, tables)?;
+    let steps = plan.steps.as_slice();
+    let rows = source_rows(alloc, &plan.source, room_for(plan), catalog, tables)?;
     let setting = Setting {
         catalog,
         tables,
         patterns,
         cutters,
-        columns: plan.columns,
     };
-    let rows = run_steps(alloc, setting, plan.steps.as_slice(), rows, log)?;
+    let rows = run_steps(alloc, setting, steps, rows, log)?;
     shown_rows(alloc, plan.output.as_slice(), rows.as_slice())
 }
 
-/// The rows after steps one after another, of rows that have so many columns.
+/// For how many cells the rows of the source have room: for all columns, where a step puts one into them before they are grouped.
+fn room_for(plan: &Plan) -> u32
+    ensures { result ≤ plan.now.columns }
+{
+    for step in plan.steps.as_slice() {
+        match step {
+            Step::Eval { .. }
+            | Step::Expand { .. }
+            | Step::Dissect { .. }
+            | Step::Grok { .. }
+            | Step::Enrich { .. } => return plan.columns,
+            Step::Stats { .. } => return 0,
+            Step::Filter { .. } | Step::Sort { .. } | Step::TopN { .. } | Step::Limit { .. } => {}
+        }
+    }
+    0
+}
+
+/// The rows after steps one after another.
 fn run_steps(
     alloc: Global,
     setting: Setting<'_>,
@@ -76,7 +92,6 @@ fn run_steps(
     log: &mut Log,
 ) -> Result<Seq<Seq<Cell>>, AllocError>
     requires run { All (CanRun (bounds_over setting)) steps.now }
-    requires wide { AreWide setting.columns source }
     requires fails { All (FailsBelow (length log.old)) steps.now }
     requires stats { All (StatsFailBelow (length log.old)) steps.now }
     ensures rows { IfOk result (λ rows. rows_of rows ≡ rows_after (held_by setting.entry) steps.now (rows_of source)) }
@@ -90,7 +105,7 @@ fn run_steps(
     Ok(rows)
 }
 
-/// The rows after a step, of rows that have so many columns.
+/// The rows after a step.
 fn run_step(
     alloc: Global,
     setting: Setting<'_>,
@@ -99,10 +114,9 @@ fn run_step(
     log: &mut Log,
 ) -> Result<Seq<Seq<Cell>>, AllocError>
     requires run { CanRun (bounds_over setting) step.now }
-    requires wide { AreWide setting.columns rows }
     requires fails { FailsBelow (length log.old) step.now }
     requires stats { StatsFailBelow (length log.old) step.now }
-    ensures rows { IfOk result (λ new. new ≡ kept_rows (held_by setting.entry) setting.entry.columns step.now rows) }
+    ensures rows { IfOk result (λ new. new ≡ kept_rows (held_by setting.entry) step.now rows) }
     ensures log { OnOk result (log.new ≡ logged log.old (kept_failures step.now rows)) }
     ensures nodes { OnOk result (length log.new ≡ length log.old) }
 {
@@ -123,7 +137,6 @@ fn run_step(
             alloc,
             aggregates.as_slice(),
             groups.as_slice(),
-            setting.columns,
             rows,
             log,
         ),

@@ -7,30 +7,28 @@ ghost use Rattle.std.specs.Ordering.{nat_cmp};
 ghost use Rattle.esql_plan.specs.declared.plan.ScanColumn.{ScanColumn as Scanned};
 ghost use Rattle.plan_semantics.specs.Tables.{source_rows, scan_table};
 ghost use Rattle.plan_rows.specs.Held.{tables_held};
-ghost use Rattle.plan_rows.specs.Kept.{rows_of, AreWide};
+ghost use Rattle.plan_rows.specs.Kept.{rows_of};
 ghost use Rattle.plan_rows.specs.Places.{place_from, places_of, cell_in, cells_in};
-ghost use Rattle.plan_rows.specs.Runs.{IsScanBelow};
 
 use esql_plan::{Catalog, PlanSource, ScanColumn};
 use esql_types::{Cell, Column, Seq, Text};
 use ndjson_load::Table;
+use stats_groups::width_with;
 use std::alloc::{AllocError, Global};
 use std::collections::BTreeMap;
 
-/// The rows of a source, each with so many cells.
+/// The rows of a source, each with a cell for each column number up to the last that is scanned, and room for so many.
 pub(crate) fn source_rows(
     alloc: Global,
     source: &PlanSource,
-    columns: u32,
+    room: u32,
     catalog: &Catalog,
     tables: &[Table],
 ) -> Result<Seq<Seq<Cell>>, AllocError>
-    requires { IsScanBelow columns source.now }
-    ensures wide { IfOk result (AreWide columns) }
-    ensures rows { IfOk result (λ rows. rows_of rows ≡ source_rows (tables_held catalog.now tables.now).tables source.now) }
+    ensures { IfOk result (λ rows. rows_of rows ≡ source_rows (tables_held catalog.now tables.now).tables source.now) }
 {
     match source {
-        PlanSource::OneRow => one_row(alloc, columns),
+        PlanSource::OneRow => one_row(alloc, room),
         PlanSource::Scan {
             tables: numbers,
             columns: scanned,
@@ -38,31 +36,20 @@ pub(crate) fn source_rows(
             alloc,
             numbers.as_slice(),
             scanned.as_slice(),
-            columns,
+            room as usize,
             catalog,
             tables,
         ),
     }
 }
 
-/// One row of so many nulls.
-fn one_row(alloc: Global, columns: u32) -> Result<Seq<Seq<Cell>>, AllocError>
-    ensures { IfOk result (λ rows. rows ≡ replicate columns [] ∷ []) }
+/// One row without a cell, and with room for so many.
+fn one_row(alloc: Global, room: u32) -> Result<Seq<Seq<Cell>>, AllocError>
+    ensures { IfOk result (λ rows. rows ≡ [] ∷ []) }
 {
     let mut rows = Seq::new(alloc);
-    rows.push(nulls(alloc, columns)?)?;
+    rows.push(Seq::from_vec(Vec::with_capacity(alloc, room as usize)?))?;
     Ok(rows)
-}
-
-/// A row of so many nulls.
-pub(crate) fn nulls(alloc: Global, columns: u32) -> Result<Seq<Cell>, AllocError>
-    ensures { IfOk result (λ row. row ≡ replicate columns []) }
-{
-    let mut row = Seq::new(alloc);
-    for _ in 0..columns {
-        row.push(Cell::null(alloc))?;
-    }
-    Ok(row)
 }
 
 /// The rows of the tables of the numbers, one table after another.
@@ -70,13 +57,11 @@ fn scan(
     alloc: Global,
     numbers: &[u32],
     scanned: &[ScanColumn],
-    columns: u32,
+    room: usize,
     catalog: &Catalog,
     tables: &[Table],
 ) -> Result<Seq<Seq<Cell>>, AllocError>
-    requires { All (λ (column : Scanned). column.to.0 < columns) scanned.now }
-    ensures wide { IfOk result (AreWide columns) }
-    ensures rows { IfOk result (λ rows. rows_of rows ≡ flat_map (λ number. scan_table scanned.now (slice_get (tables_held catalog.now tables.now).tables number)) numbers.now) }
+    ensures { IfOk result (λ rows. rows_of rows ≡ flat_map (λ number. scan_table scanned.now (slice_get (tables_held catalog.now tables.now).tables number)) numbers.now) }
 {
     let mut rows = Seq::new(alloc);
     for number in numbers {
@@ -84,7 +69,7 @@ fn scan(
             alloc,
             *number as usize,
             scanned,
-            columns,
+            room,
             catalog,
             tables,
             &mut rows,
@@ -98,20 +83,17 @@ fn add_table(
     alloc: Global,
     number: usize,
     scanned: &[ScanColumn],
-    columns: u32,
+    room: usize,
     catalog: &Catalog,
     tables: &[Table],
     rows: &mut Seq<Seq<Cell>>,
 ) -> Result<(), AllocError>
-    requires below { All (λ (column : Scanned). column.to.0 < columns) scanned.now }
-    requires wide { AreWide columns rows.old }
-    ensures wide { OnOk result (AreWide columns rows.new) }
-    ensures rows { OnOk result (rows_of rows.new ≡ rows_of rows.old ++ scan_table scanned.now (slice_get (tables_held catalog.now tables.now).tables number)) }
+    ensures { OnOk result (rows_of rows.new ≡ rows_of rows.old ++ scan_table scanned.now (slice_get (tables_held catalog.now tables.now).tables number)) }
 {
     match (catalog.tables.at(number), table_at(tables, number)) {
         (Some(shape), Some(table)) => {
-            let places = places_of(alloc, columns, scanned, shape.columns.as_slice())?;
-            add_rows(alloc, places.as_slice(), table.as_slice(), rows)
+            let places = places_of(alloc, width_of(scanned), scanned, shape.columns.as_slice())?;
+            add_rows(alloc, places.as_slice(), room, table.as_slice(), rows)
         }
         (Some(_), None) => Ok(()),
         (None, _) => Ok(()),
@@ -127,7 +109,7 @@ pub(crate) fn table_at(tables: &[Table], number: usize) -> Option<&Table>
 /// For each of so many column numbers, the place where a scan finds its cell in a row of a table, if it is scanned.
 fn places_of(
     alloc: Global,
-    count: u32,
+    count: usize,
     scanned: &[ScanColumn],
     columns: &[Column],
 ) -> Result<Seq<Option<usize>>, AllocError>
@@ -144,7 +126,18 @@ fn places_of(
     Ok(places)
 }
 
-fn no_places(alloc: Global, count: u32) -> Result<Seq<Option<usize>>, AllocError>
+/// How many cells a row has that has one for each column number up to the last that is scanned.
+fn width_of(scanned: &[ScanColumn]) -> usize
+    ensures { All (λ (column : Scanned). column.to.0 < result) scanned.now }
+{
+    let mut width = 0;
+    for column in scanned {
+        width = width_with(width, column.to);
+    }
+    width
+}
+
+fn no_places(alloc: Global, count: usize) -> Result<Seq<Option<usize>>, AllocError>
     ensures { IfOk result (λ places. places ≡ replicate count None) }
 {
     let mut places = Seq::new(alloc);
@@ -180,25 +173,28 @@ pub(crate) fn place_named(named: &BTreeMap<&str, usize>, name: &Text) -> Option<
 fn add_rows(
     alloc: Global,
     places: &[Option<usize>],
+    room: usize,
     table: &[Seq<Cell>],
     rows: &mut Seq<Seq<Cell>>,
 ) -> Result<(), AllocError>
     ensures { OnOk result (rows.new ≡ rows.old ++ map (cells_in places.now) table.now) }
 {
     for row in table {
-        rows.push(cells_in(alloc, places, row)?)?;
+        rows.push(cells_in(alloc, places, room, row)?)?;
     }
     Ok(())
 }
 
+/// The cells at places of a row, with room for so many.
 pub(crate) fn cells_in(
     alloc: Global,
     places: &[Option<usize>],
+    room: usize,
     row: &Seq<Cell>,
 ) -> Result<Seq<Cell>, AllocError>
     ensures { IfOk result (λ cells. cells ≡ cells_in places.now row.now) }
 {
-    let mut cells = Vec::with_capacity(alloc, places.len())?;
+    let mut cells = Vec::with_capacity(alloc, places.len().max(room))?;
     for place in places {
         cells.push(cell_in(alloc, row, *place)?)?;
     }

@@ -1,4 +1,4 @@
-ghost use Rattle.std.specs.Prelude.{◌≡◌, ◌++◌, ◌∷◌, [], ◌<◌, if◌then◌else◌, length, IfOk, OnOk, slice_set, slice_index_or};
+ghost use Rattle.std.specs.Prelude.{◌≡◌, ◌++◌, ◌∷◌, [], if◌then◌else◌, length, IfOk, OnOk, slice_index_or};
 ghost use Rattle.std.specs.List.{flat_map};
 ghost use Rattle.esql_plan.specs.declared.step.Step.TheVariants.{Eval, Filter, Expand};
 ghost use Rattle.esql_plan.specs.Fits.{ExprFits};
@@ -9,13 +9,15 @@ ghost use Rattle.plan_semantics.specs.Laws.{AreBelow};
 ghost use Rattle.plan_semantics.specs.Steps.{is_true, step_fails, failures_of_condition};
 ghost use Rattle.warn_log.specs.Logs.{logged};
 ghost use Rattle.plan_rows.specs.Kept.{expanded_cells, kept_eval, kept_if, kept_expanded, kept_failures};
-ghost use Rattle.plan_rows.specs.Runs.{FailsBelow, HaveCell};
+ghost use Rattle.plan_rows.specs.Runs.{FailsBelow};
+ghost use Rattle.stats_groups.specs.Cells.{put_cell};
 
 use crate::source::cell_of;
 use esql_plan::TypedExpr;
 use esql_scalar::evaluate;
 use esql_types::{Cell, ColId, Failure, NodeId, Seq};
 use scalar_functions::{note_several, truth_in};
+use stats_groups::put_cell;
 use std::alloc::{AllocError, Global};
 use text_match::Patterns;
 use warn_log::Log;
@@ -30,7 +32,6 @@ pub(crate) fn eval_rows(
     log: &mut Log,
 ) -> Result<Seq<Seq<Cell>>, AllocError>
     requires fits { ExprFits patterns.now.whole patterns.now.free expr.now }
-    requires to { HaveCell to rows }
     requires fails { FailsBelow (length log.old) (Eval to expr.now) }
     ensures rows { IfOk result (λ new. new ≡ flat_map (kept_eval to expr.now) rows) }
     ensures log { OnOk result (log.new ≡ logged log.old (kept_failures (Eval to expr.now) rows)) }
@@ -39,7 +40,7 @@ pub(crate) fn eval_rows(
     let mut new = Seq::new(alloc);
     for row in rows.into_vec() {
         let cell = value_noted(alloc, expr, &row, patterns, log)?;
-        add_row(row, to, cell, &mut new)?;
+        add_row(alloc, row, to, cell, &mut new)?;
     }
     Ok(new)
 }
@@ -146,7 +147,6 @@ pub(crate) fn expand_rows(
     to: ColId,
     rows: Seq<Seq<Cell>>,
 ) -> Result<Seq<Seq<Cell>>, AllocError>
-    requires { HaveCell to rows }
     ensures { IfOk result (λ new. new ≡ flat_map (kept_expanded id to) rows) }
 {
     let mut new = Seq::new(alloc);
@@ -165,14 +165,14 @@ fn expand_row(
     row: Seq<Cell>,
     new: &mut Seq<Seq<Cell>>,
 ) -> Result<(), AllocError>
-    requires { to.0 < length row }
     ensures { OnOk result (new.new ≡ new.old ++ expanded_cells row to.0 cell) }
 {
     if cell.len() <= 1 {
-        return add_row(row, to, cell, new);
+        return add_row(alloc, row, to, cell, new);
     }
     for value in cell.as_slice() {
         add_row(
+            alloc,
             copied(alloc, &row)?,
             to,
             Cell::one(alloc, value.copy()?),
@@ -184,15 +184,15 @@ fn expand_row(
 
 /// Adds a row with this cell in a column.
 fn add_row(
+    alloc: Global,
     mut row: Seq<Cell>,
     to: ColId,
     cell: Cell,
     new: &mut Seq<Seq<Cell>>,
 ) -> Result<(), AllocError>
-    requires { to.0 < length row }
-    ensures { OnOk result (new.new ≡ new.old ++ slice_set row to.0 cell ∷ []) }
+    ensures { OnOk result (new.new ≡ new.old ++ put_cell row to.0 cell ∷ []) }
 {
-    row.replace(to.0 as usize, cell);
+    put_cell(alloc, &mut row, to.0 as usize, cell)?;
     new.push(row)
 }
 

@@ -3,6 +3,8 @@ pub mod StateSteps
 pub mod RunningSteps
 pub mod DistinctKeys
 pub mod GroupSteps
+pub mod CellSteps
+pub mod Widths
 pub mod MapSteps
 pub mod SameTurns
 pub mod RunningTurn

@@ -5,14 +5,20 @@ use Rattle.std.specs.List.{flat_map}
 use Rattle.std.specs.Option.{option_map}
 use Rattle.esql_types.specs.declared.cause.Failure.{Failure}
 use Rattle.esql_types.specs.declared.value.Value.{Value}
-use Rattle.plan_semantics.specs.Groups.{Entry, keys_of_cells, rows_of_groups, failures_of_groups}
+use Rattle.plan_semantics.specs.Groups.{Entry, keys_of_cells, failures_of_groups}
+use Rattle.plan_semantics.specs.Stats.{stats_columns}
 use Rattle.stats_groups.specs.declared.groups.Groups.TheInside.{Inside}
+use Rattle.stats_groups.specs.Cells.{put_cells}
 use Rattle.stats_groups.specs.Entries.{cells_of, entry_of_row, inputs_of}
-use Rattle.stats_groups.specs.Grouped.{Grouped, with_entry, rows_grouped, failures_grouped}
+use Rattle.stats_groups.specs.Grouped.{Grouped, with_entry, rows_made, rows_grouped, failures_grouped}
 use Rattle.stats_groups.specs.Held.{grouped_of, HoldsGroups}
 use Rattle.stats_groups.specs.Maps.{Group, failures_of_group, groups_of, row_of_group, with_row_at}
 use Rattle.stats_groups.proofs.SameTurns.{cells_long}
 use Rattle.stats_groups.proofs.GroupSteps.{groups_more, rows_in_the_end, failures_in_the_end}
+
+map_twice : {A B C : Type 0} (f : A → B) (g : B → C) (items : List A) → map (λ item. g (f item)) items ≡ map g (map f items)
+map_twice f g [] = refl
+map_twice f g (item ∷ items) = ap (λ rest. g (f item) ∷ rest) (map_twice f g items)
 
 module _ (inside : Inside) (seen : Grouped) (view : grouped_of inside ≡ seen) where
   pub seen_broken : inside.is_broken ≡ true → seen ≡ record seen { entries = None }
@@ -49,10 +55,14 @@ module _ (inside : Inside) (seen : Grouped) (view : grouped_of inside ≡ seen) 
           ∙ groups_more inside.aggregates (length inside.columns) inside.entries.list (entry_of_row inside.columns inside.aggregates row) (cells_long inside.columns row)
           ∙ ap (groups_of (length inside.columns) inside.aggregates) (sym listed)
 
-      pub seen_rows : Some (map row_of_group inside.groups.entries) ≡ rows_grouped seen
+      abbrev placed : List (List Value) → List (List Value)
+      placed = put_cells [] (stats_columns inside.aggregates inside.columns)
+
+      pub seen_rows : Some (map (λ (group : Group). placed (row_of_group group)) inside.groups.entries) ≡ rows_grouped seen
       seen_rows =
-          ap Some (ap (map row_of_group) (holds whole) ∙ rows_in_the_end inside.aggregates (length inside.columns) inside.entries.list)
-          ∙ sym (ap (λ (is : Bool). option_map (rows_of_groups (length inside.columns) inside.aggregates) (if is then None else Some inside.entries.list)) whole)
+          ap Some (map_twice row_of_group placed inside.groups.entries
+          ∙ ap (map placed) (ap (map row_of_group) (holds whole) ∙ rows_in_the_end inside.aggregates (length inside.columns) inside.entries.list))
+          ∙ sym (ap (λ (is : Bool). option_map (rows_made inside.columns inside.aggregates) (if is then None else Some inside.entries.list)) whole)
           ∙ ap rows_grouped view
 
       pub seen_failures : (old : List Failure) → Some (old ++ flat_map failures_of_group inside.groups.entries) ≡ option_map (λ new. old ++ new) (failures_grouped seen)

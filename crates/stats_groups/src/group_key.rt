@@ -1,8 +1,10 @@
-ghost use Rattle.std.specs.Prelude.{◌≡◌, [], ◌∷◌, ◌++◌, IfOk, OnOk};
+ghost use Rattle.std.specs.Prelude.{◌≡◌, [], ◌∷◌, IfOk, OnOk};
+ghost use Rattle.stats_groups.specs.Cells.{put_cells};
 
+use crate::cells::{put_cells, put_first};
 use crate::hashes::hash_cells;
 use crate::same::same_cells;
-use esql_types::{Cell, Seq};
+use esql_types::{Cell, ColId, Seq};
 use std::alloc::{AllocError, Global};
 use std::hash::{Hash, Hasher};
 use std::marker::Model;
@@ -58,14 +60,19 @@ impl GroupKey {
         }
     }
 
-    /// Adds the cells of the key to a row.
-    pub(crate) fn push_cells(self, row: &mut Seq<Cell>) -> Result<(), AllocError>
-        ensures { OnOk result (row.new ≡ row.old ++ self) }
+    /// Puts the cells of the key at columns of a row, as far as there are columns.
+    pub(crate) fn put_cells(
+        self,
+        alloc: Global,
+        columns: &[ColId],
+        row: &mut Seq<Cell>,
+    ) -> Result<(), AllocError>
+        ensures { OnOk result (row.new ≡ put_cells row.old columns.now self) }
     {
         let GroupKey { cells } = self;
         match cells {
-            KeyCells::One(cell) => row.push(cell),
-            KeyCells::Several(cells) => push_all(cells, row),
+            KeyCells::One(cell) => put_first(alloc, row, columns, cell),
+            KeyCells::Several(cells) => put_cells(alloc, row, columns, cells),
         }
     }
 
@@ -80,15 +87,6 @@ impl GroupKey {
         }
         Ok(GroupKey::of(cells))
     }
-}
-
-fn push_all(cells: Vec<Cell>, row: &mut Seq<Cell>) -> Result<(), AllocError>
-    ensures { OnOk result (row.new ≡ row.old ++ cells.items) }
-{
-    for cell in cells {
-        row.push(cell)?;
-    }
-    Ok(())
 }
 
 impl PartialEq for GroupKey {

@@ -1,9 +1,11 @@
 ghost use Rattle.std.specs.Prelude.{◌≡◌, [], ◌++◌, length, map, IfOk, OnOk, slice_index_or};
 ghost use Rattle.std.specs.List.{flat_map};
 ghost use Rattle.plan_semantics.specs.Stats.{input_cell};
+ghost use Rattle.stats_groups.specs.Cells.{put_cells};
 ghost use Rattle.stats_groups.specs.Entries.{inputs_of, numbered};
 ghost use Rattle.stats_groups.specs.States.{running_before, running_after, cell_of_running, failures_of_running};
 
+use crate::cells::{behind, put_first};
 use crate::row_key::values_at;
 use crate::state::{Running, State};
 use esql_plan::Aggregate;
@@ -59,19 +61,23 @@ impl GroupStates {
         self.states.len()
     }
 
-    /// Adds the aggregates' cells to a row, and their failures to others.
-    pub(crate) fn push_cells(
+    /// Puts the aggregates' cells at columns of a row, as far as there are columns, and adds their failures to others.
+    pub(crate) fn put_cells(
         self,
         alloc: Global,
+        columns: &[ColId],
         row: &mut Seq<Cell>,
         failures: &mut Seq<Failure>,
     ) -> Result<(), AllocError>
-        ensures row { OnOk result (row.new ≡ row.old ++ map cell_of_running self) }
+        ensures row { OnOk result (row.new ≡ put_cells row.old columns.now (map cell_of_running self)) }
         ensures failures { OnOk result (failures.new ≡ failures.old ++ flat_map failures_of_running self) }
     {
         let GroupStates { states } = self;
+        let mut left = columns;
         for running in states {
-            row.push(running.finish(alloc, failures)?)?;
+            let cell = running.finish(alloc, failures)?;
+            put_first(alloc, row, left, cell)?;
+            left = behind(left, 1);
         }
         Ok(())
     }

@@ -1,9 +1,13 @@
+ghost use Rattle.std.specs.Prelude.{◌≡◌, map, IfOk};
+ghost use Rattle.esql_plan.specs.declared.step.Aggregate.{Aggregate as AggregateOf};
+ghost use Rattle.plan_semantics.specs.Stats.{stats_columns};
+
 use crate::entries::{AddedRow, Entries};
 use crate::group_key::GroupKey;
 use crate::group_states::GroupStates;
 use crate::map::{add_row, groups_before, rows_of_groups};
 use esql_plan::{Aggregate, GroupColumn};
-use esql_types::{Cell, Failure, Seq};
+use esql_types::{Cell, ColId, Failure, Seq};
 use indexmap::IndexMap;
 use std::alloc::{AllocError, Global};
 use std::marker::Model;
@@ -96,8 +100,9 @@ impl Groups {
         }
     }
 
-    /// A row for each group, in the order of the groups' first rows: the cells of the aggregates, then those of the key. The
-    /// failures of the aggregates are added to others, group after group; after want of memory some of them may be there.
+    /// A row for each group, in the order of the groups' first rows, with the cells of the aggregates and those of the key at the
+    /// columns that are made of them, and null before and between these. The failures of the aggregates are added to others, group
+    /// after group; after want of memory some of them may be there.
     ///
     /// # Errors
     /// Want of memory, here or in an earlier call.
@@ -107,6 +112,8 @@ impl Groups {
     {
         let Groups {
             alloc,
+            columns,
+            aggregates,
             groups,
             is_broken,
             ..
@@ -114,7 +121,33 @@ impl Groups {
         if is_broken {
             return Err(AllocError);
         }
-        let rows = rows_of_groups(alloc, groups, failures)?;
+        let made = columns_made(alloc, aggregates.as_slice(), columns.as_slice())?;
+        let rows = rows_of_groups(alloc, made.as_slice(), groups, failures)?;
         Ok(rows)
     }
+}
+
+/// The columns that are made, those of the aggregates before those of the groups.
+fn columns_made(
+    alloc: Global,
+    aggregates: &[Aggregate],
+    groups: &[GroupColumn],
+) -> Result<Seq<ColId>, AllocError>
+    ensures { IfOk result (λ made. made ≡ stats_columns aggregates.now groups.now) }
+{
+    let mut made = aggregate_columns(alloc, aggregates)?;
+    for group in groups {
+        made.push(group.to)?;
+    }
+    Ok(made)
+}
+
+fn aggregate_columns(alloc: Global, aggregates: &[Aggregate]) -> Result<Seq<ColId>, AllocError>
+    ensures { IfOk result (λ made. made ≡ map (λ (aggregate : AggregateOf). aggregate.to) aggregates.now) }
+{
+    let mut made = Seq::new(alloc);
+    for aggregate in aggregates {
+        made.push(aggregate.to)?;
+    }
+    Ok(made)
 }

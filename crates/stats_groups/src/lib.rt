@@ -1,6 +1,7 @@
 //! Groups of rows by their keys, and the running aggregates of each.
 #![tactic(auto)]
 
+mod cells;
 mod distinct;
 mod entries;
 mod group_key;
@@ -17,4 +18,5 @@ mod sum;
 #[cfg(test)]
 mod tests;
 
+pub use cells::{put_cell, width_with};
 pub use groups::Groups;

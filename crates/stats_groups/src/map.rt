@@ -1,15 +1,17 @@
 ghost use Rattle.std.specs.Prelude.{◌≡◌, ◌++◌, ◌∷◌, [], map, length, IfOk, OnOk};
 ghost use Rattle.std.specs.List.{flat_map};
 ghost use Rattle.plan_semantics.specs.Groups.{keys_of_cells};
+ghost use Rattle.stats_groups.specs.Cells.{put_cells};
 ghost use Rattle.stats_groups.specs.Entries.{cells_of, inputs_of};
 ghost use Rattle.stats_groups.specs.Maps.{with_row, with_row_at, groups_before, row_of_group, failures_of_group};
 
+use crate::cells::{behind, width_of};
 use crate::group_key::GroupKey;
 use crate::group_states::GroupStates;
 use crate::keys::keys_of_cells;
 use crate::row_key::{RowKey, cells_of_key, is_single_key, key_of_row};
 use esql_plan::{Aggregate, GroupColumn};
-use esql_types::{Cell, Failure, Seq};
+use esql_types::{Cell, ColId, Failure, Seq};
 use indexmap::IndexMap;
 use std::alloc::{AllocError, Global};
 
@@ -109,34 +111,39 @@ fn add_to_group(
     }
 }
 
-/// A row for each group; the failures of aggregates are added to others.
+/// A row for each group, with its cells at columns; the failures of aggregates are added to others.
 pub(crate) fn rows_of_groups(
     alloc: Global,
+    columns: &[ColId],
     groups: IndexMap<GroupKey, GroupStates>,
     failures: &mut Seq<Failure>,
 ) -> Result<Seq<Seq<Cell>>, AllocError>
-    ensures rows { IfOk result (λ rows. rows ≡ map row_of_group groups.entries) }
+    ensures rows { IfOk result (λ rows. rows ≡ map (λ group. put_cells [] columns.now (row_of_group group)) groups.entries) }
     ensures failures { OnOk result (failures.new ≡ failures.old ++ flat_map failures_of_group groups.entries) }
 {
+    let width = width_of(columns);
     let mut rows = Seq::from_vec(Vec::with_capacity(alloc, groups.len())?);
     for (key, states) in groups {
-        rows.push(row_of_group(alloc, key, states, failures)?)?;
+        rows.push(row_of_group(alloc, columns, width, key, states, failures)?)?;
     }
     Ok(rows)
 }
 
+/// The row of a group, with room for so many cells.
 fn row_of_group(
     alloc: Global,
+    columns: &[ColId],
+    room: usize,
     key: GroupKey,
     states: GroupStates,
     failures: &mut Seq<Failure>,
 ) -> Result<Seq<Cell>, AllocError>
-    ensures row { IfOk result (λ row. row ≡ row_of_group (key, states)) }
+    ensures row { IfOk result (λ row. row ≡ put_cells [] columns.now (row_of_group (key, states))) }
     ensures failures { OnOk result (failures.new ≡ failures.old ++ failures_of_group (key, states)) }
 {
-    let cells = states.len().saturating_add(key.as_slice().len());
-    let mut row = Seq::from_vec(Vec::with_capacity(alloc, cells)?);
-    states.push_cells(alloc, &mut row, failures)?;
-    key.push_cells(&mut row)?;
+    let mut row = Seq::from_vec(Vec::with_capacity(alloc, room)?);
+    let key_columns = behind(columns, states.len());
+    states.put_cells(alloc, columns, &mut row, failures)?;
+    key.put_cells(alloc, key_columns, &mut row)?;
     Ok(row)
 }

@@ -20,26 +20,29 @@ fn texts(alloc: Global, texts: &[&str]) -> Result<Cell, AllocError> {
     Ok(cell)
 }
 
-// Aggregates of column 0.
+// Aggregates of column 0, in the columns from 0 on.
 fn aggregates(alloc: Global, functions: &[AggFunction]) -> Result<Seq<Aggregate>, AllocError> {
     let mut aggregates = Seq::new(alloc);
+    let mut to = 0_u32;
     for function in functions {
         aggregates.push(Aggregate {
             node: NodeId(7),
             function: *function,
             input: Some(ColId(0)),
-            to: ColId(0),
+            to: ColId(to),
         })?;
+        to = to.saturating_add(1);
     }
     Ok(aggregates)
 }
 
+// Columns of these numbers, in the second of those behind each.
 fn columns(alloc: Global, numbers: &[u32]) -> Result<Seq<GroupColumn>, AllocError> {
     let mut columns = Seq::new(alloc);
     for number in numbers {
         columns.push(GroupColumn {
             id: ColId(*number),
-            to: ColId(*number),
+            to: ColId(number.saturating_add(2)),
         })?;
     }
     Ok(columns)
@@ -85,7 +88,7 @@ fn a_row_counts_in_each_of_its_groups(rt: HostRuntime) -> Result<(), Fail> {
     let rows = groups.finish(&mut failures)?;
     let given = shown(alloc, rows.as_slice())?;
     assert!(rt;
-        given.as_str() == "[1 ][x ][];[2 ][y ][];[1 ][][];",
+        given.as_str() == "[1 ][][x ][];[2 ][][y ][];[1 ][][][];",
         "{given}"
     );
     Ok(())

@@ -56,8 +56,8 @@ returns-in-Dissect-clause-log c =
     (ap (λ (failures : List Failure). logged c.args.log.now failures)
     (sym (ap (λ (step : Step). kept_failures step c.args.rows) c.in-Dissect.is ∙ no_failures (λ row. []) (λ row. refl) c.args.rows)))
 
-pub grok_rows-requires-clause-fails : goal.grok_rows-requires-clause-fails
-grok_rows-requires-clause-fails c =
+pub grok_rows-requires : goal.grok_rows-requires
+grok_rows-requires c =
     let own = c.in-Grok in
     subst (λ (to : List NewColumn). TakenBelow (length c.args.log.now) (taken_of_cell (length to) (grokked_by own.node (Some c.grok_at-grok.result.now)))) (sym c.as_slice-to.ensures)
     (grok_fails (bounds_over c.args.setting) (length c.args.log.now) own.node own.input own.cutter own.pattern own.to c.grok_at-grok.result.now
@@ -70,12 +70,12 @@ returns-in-Grok-clause-rows c =
     let found = c.grok_at-grok.result.now in
     IfOk-weaker c.grok_rows.result
     (λ new. new ≡ flat_map (kept_taken (λ count cell. taken_of_cell count (grokked_by own.node (Some found)) cell) own.input c.as_slice-to.result.now) c.args.rows)
-    (λ new. new ≡ kept_rows held c.args.setting.columns c.args.step.now c.args.rows)
+    (λ new. new ≡ kept_rows held c.args.step.now c.args.rows)
     (λ new is. is
     ∙ ap (λ to. flat_map (kept_taken (λ count cell. taken_of_cell count (grokked_by own.node (Some found)) cell) own.input to) c.args.rows) c.as_slice-to.ensures
-    ∙ grok_gives held (bounds_over c.args.setting) c.args.setting.columns c.args.rows own.node own.input own.cutter own.pattern own.to found
+    ∙ grok_gives held (bounds_over c.args.setting) c.args.rows own.node own.input own.cutter own.pattern own.to found
     (subst (CanRun (bounds_over c.args.setting)) own.is c.requires.run) c.grok_at-grok.ensures
-    ∙ ap (λ (step : Step). kept_rows held c.args.setting.columns step c.args.rows) (sym own.is))
+    ∙ ap (λ (step : Step). kept_rows held step c.args.rows) (sym own.is))
     c.grok_rows.ensures.rows
 
 pub returns-in_ok-lookup-in-Enrich-clause-rows : goal.returns-in_ok-lookup-in-Enrich-clause-rows
@@ -85,13 +85,13 @@ returns-in_ok-lookup-in-Enrich-clause-rows c =
     let found = c.in_ok-lookup-in-Enrich.lookup.rows in
     IfOk-weaker c.enrich_rows.result
     (λ new. new ≡ flat_map (kept_enriched (λ cell. map (matched_cell found cell) c.as_slice-fields.result.now) own.on c.as_slice-in-Enrich.result.now) c.args.rows)
-    (λ new. new ≡ kept_rows held c.args.setting.columns c.args.step.now c.args.rows)
+    (λ new. new ≡ kept_rows held c.args.step.now c.args.rows)
     (λ new is. is
     ∙ ap (λ fields. flat_map (kept_enriched (λ cell. map (matched_cell found cell) fields) own.on c.as_slice-in-Enrich.result.now) c.args.rows) c.as_slice-fields.ensures
     ∙ ap (λ to. flat_map (kept_enriched (λ cell. map (matched_cell found cell) own.fields) own.on to) c.args.rows) c.as_slice-in-Enrich.ensures
-    ∙ enrich_gives held (bounds_over c.args.setting) c.args.setting.columns c.args.rows own.policy own.on own.fields own.to c.policy_at-policy.result.now found
+    ∙ enrich_gives held (bounds_over c.args.setting) c.args.rows own.policy own.on own.fields own.to c.policy_at-policy.result.now found
     c.policy_at-policy.ensures c.in_ok-lookup-in-Enrich.ensures
-    ∙ ap (λ (step : Step). kept_rows held c.args.setting.columns step c.args.rows) (sym own.is))
+    ∙ ap (λ (step : Step). kept_rows held step c.args.rows) (sym own.is))
     c.enrich_rows.ensures
 
 pub returns-in_ok-lookup-in-Enrich-clause-log : goal.returns-in_ok-lookup-in-Enrich-clause-log

@@ -1,10 +1,9 @@
 use Rattle.std.proofs.Common.{◌≡◌, ◌<◌, ◌∙◌, ap, sym, subst, length, arith}
 use Rattle.std.proofs.lemmas.List.Elements.{All-get_or}
 use Rattle.esql_plan.specs.declared.step.Step.{Step}
-use Rattle.plan_rows.specs.Kept.{AreWide, kept_rows}
+use Rattle.plan_rows.specs.Kept.{kept_rows}
 use Rattle.plan_rows.specs.Settings.{bounds_over, held_by}
 use Rattle.plan_rows.specs.Runs.{CanRun}
-use Rattle.plan_rows.proofs.KeptSteps.{wide-step}
 use Rattle.plan_rows.proofs.Turns.{rows_turn, log_turn}
 use Rattle.plan_rows.proofs.run.run_steps.Goals as goal
 
@@ -12,7 +11,6 @@ pub loop-step-preserved : goal.loop-step-preserved
 loop-step-preserved c =
     let held = held_by c.args.setting in
     let bounds = bounds_over c.args.setting in
-    let columns = c.args.setting.columns in
     let steps = c.args.steps.now in
     let place = c.loop-step.step-index in
     let step = c.step-item.result in
@@ -22,11 +20,9 @@ loop-step-preserved c =
     let within : place < length steps = omega arith in
     let run : CanRun bounds step =
     subst (CanRun bounds) (sym c.step-item.is) (All-get_or (CanRun bounds) steps place step within c.requires.run) in
-    let wide = c.loop-step.invariant.wide in
     record {
-      wide = subst (AreWide columns) (sym made) (wide-step held bounds step rows wide);
-      rows = rows_turn held bounds steps place step rows new within c.step-item.is run wide made ∙ c.loop-step.invariant.rows;
-      log = log_turn held bounds steps place step rows new within c.step-item.is run wide made c.loop-step.log c.run_step.new.log c.in_ok-rows.ensures.log
+      rows = rows_turn held bounds steps place step rows new within c.step-item.is run made ∙ c.loop-step.invariant.rows;
+      log = log_turn held bounds steps place step rows new within c.step-item.is run made c.loop-step.log c.run_step.new.log c.in_ok-rows.ensures.log
           ∙ c.loop-step.invariant.log;
       nodes = c.in_ok-rows.ensures.nodes ∙ c.loop-step.invariant.nodes;
     }

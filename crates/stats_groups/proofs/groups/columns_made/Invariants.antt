@@ -1,7 +1,7 @@
 use Rattle.std.proofs.Common.{◌≡◌, ◌++◌, map, take}
 use Rattle.esql_plan.specs.declared.step.Aggregate.{Aggregate}
 use Rattle.esql_plan.specs.declared.step.GroupColumn.{GroupColumn}
-use Rattle.plan_rows.proofs.stats.columns_made.Given as goal
+use Rattle.stats_groups.proofs.groups.columns_made.Given as goal
 
 abbrev pub invariant-loop-group : goal.invariant-loop-group
 invariant-loop-group l = l.made ≡ map (λ (aggregate : Aggregate). aggregate.to) l.aggregates ++ map (λ (group : GroupColumn). group.to) (take l.group-index l.groups)
