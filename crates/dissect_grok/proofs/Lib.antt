@@ -3,6 +3,9 @@ mod Joins
 mod KeyRuns
 mod Numbers
 mod Readings
+mod Named
+mod NamesOf
+mod Ordered
 mod Steps
 mod Taken
 mod Expansions

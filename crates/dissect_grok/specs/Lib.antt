@@ -3,6 +3,7 @@ pub mod Patterns
 pub mod Parts
 pub mod Joined
 pub mod Dissects
+pub mod Numbered
 pub mod Cuts
 pub mod Laws
 pub mod Library

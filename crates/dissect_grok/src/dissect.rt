@@ -1,9 +1,9 @@
 use crate::cuts::{join_each, texts_of};
 use crate::error::DissectError;
 use crate::keys::{Key, keys_of};
-use crate::names::{have_name_twice, names_of, turns_of_each};
+use crate::names::{have_name_twice, names_of};
 use crate::texts::{behind_front, cut_at};
-use crate::turns::Turn;
+use crate::turns::{Turn, turns_of_each};
 use esql_types::{Seq, Text};
 use std::alloc::{AllocError, Global};
 use std::marker::Model;
@@ -44,7 +44,7 @@ impl Dissect {
         };
         let keys = keys_of(alloc, behind)?;
         let names = names_of(alloc, keys.as_slice())?;
-        if names.len() == 0 || have_name_twice(keys.as_slice()) {
+        if names.len() == 0 || have_name_twice(alloc, keys.as_slice())? {
             return Err(DissectError::Bad);
         }
         let turns = turns_of_each(alloc, names.as_slice(), keys.as_slice())?;

@@ -1,17 +1,16 @@
 //! The names of a pattern's keys.
-ghost use Rattle.std.specs.Prelude.{◌≡◌, map, IfOk, MatchOption, None, Some};
-ghost use Rattle.std.specs.List.{list_any};
-ghost use Rattle.std.specs.Str.{bytes_eq};
+ghost use Rattle.std.specs.Prelude.{◌≡◌, ◌||◌, is_some, List, ℕ, IfOk, MatchOption, None, OnOk, Some};
 ghost use Rattle.dissect_grok.specs.Patterns as spec;
-ghost use Rattle.dissect_grok.specs.Joined.{turns_of};
-ghost use Rattle.dissect_grok.specs.declared.keys.Key.{Key};
+ghost use Rattle.dissect_grok.specs.Numbered.{AreDistinct, IsIndex, is_noted, number_at};
 
+use crate::index::{Index, add_name};
 use crate::keys::{Form, Key};
-use crate::turns::{Turn, turns_of};
 use esql_types::{Seq, Text};
 use std::alloc::{AllocError, Global};
+use std::collections::BTreeMap;
 
-fn name_in(form: &Form) -> Option<&str>
+/// The name of a key that is not skipped.
+pub(crate) fn name_in(form: &Form) -> Option<&str>
     ensures { MatchOption result (spec.name_in form.now ≡ None) (λ name. spec.name_in form.now ≡ Some name.now) }
 {
     match form {
@@ -21,82 +20,61 @@ fn name_in(form: &Form) -> Option<&str>
     }
 }
 
-fn is_text(name: &str, text: &Text) -> bool
-    ensures { result ≡ bytes_eq name.now text.now }
+// Adds the name of a key where it is not among the names.
+fn add_name_of<'a>(
+    alloc: Global,
+    names: &mut Seq<Text>,
+    index: &mut Index<'a>,
+    form: &'a Form,
+) -> Result<(), AllocError>
+    requires index { IsIndex names.old index.old }
+    ensures names { OnOk result (names.new ≡ spec.with_name names.old (spec.name_in form.now)) }
+    ensures index { OnOk result (IsIndex names.new index.new) }
 {
-    name == text.as_str()
-}
-
-fn is_among(name: &str, names: &[Text]) -> bool
-    ensures { result ≡ list_any (bytes_eq name.now) names.now }
-{
-    names.iter().any(|other| is_text(name, other))
+    if let Some(name) = name_in(form) {
+        if add_name(index, name, names.len())? {
+            names.push(Text::from_str(alloc, name)?)?;
+        }
+    }
+    Ok(())
 }
 
 /// The names of keys, each once, by its first place.
 pub(crate) fn names_of(alloc: Global, keys: &[Key]) -> Result<Seq<Text>, AllocError>
-    ensures { IfOk result (λ names. names ≡ spec.names_of keys.now) }
+    ensures names { IfOk result (λ names. names ≡ spec.names_of keys.now) }
+    ensures distinct { IfOk result (λ names. AreDistinct names) }
 {
     let mut names = Seq::new(alloc);
+    let mut index = BTreeMap::new(alloc);
     for key in keys {
-        if let Some(name) = name_in(&key.form) {
-            if !is_among(name, names.as_slice()) {
-                names.push(Text::from_str(alloc, name)?)?;
-            }
-        }
+        add_name_of(alloc, &mut names, &mut index, &key.form)?;
     }
     Ok(names)
 }
 
-fn is_named(name: &str, form: &Form) -> bool
-    ensures { result ≡ spec.is_named name.now form.now }
+// Notes the name of a key that has it without `+`; answers whether it was noted before.
+fn note_again<'a>(noted: &mut Index<'a>, form: &'a Form) -> Result<bool, AllocError>
+    ensures again { IfOk result (λ again. again ≡ is_noted (number_at noted.old) form.now) }
+    ensures noted { OnOk result ((name : List ℕ) → is_some (number_at noted.new name)
+        ≡ (spec.is_named name form.now || is_some (number_at noted.old name))) }
 {
     match form {
-        Form::Named(other) => name == other.as_str(),
-        Form::Skipped | Form::Appended(_, _) => false,
-    }
-}
-
-fn any_is_named(name: &str, keys: &[Key]) -> bool
-    ensures { result ≡ list_any (λ (key : Key). spec.is_named name.now key.form) keys.now }
-{
-    keys.iter().any(|key| is_named(name, &key.form))
-}
-
-fn is_named_again(form: &Form, keys: &[Key]) -> bool
-    ensures { result ≡ spec.is_named_again form.now keys.now }
-{
-    match form {
-        Form::Named(name) => any_is_named(name.as_str(), keys),
-        Form::Skipped | Form::Appended(_, _) => false,
+        Form::Named(name) => Ok(!add_name(noted, name.as_str(), 0)?),
+        Form::Skipped | Form::Appended(_, _) => Ok(false),
     }
 }
 
 /// Whether two keys have one name without `+`.
-pub(crate) fn have_name_twice(keys: &[Key]) -> bool
-    ensures { result ≡ spec.have_name_twice keys.now }
+pub(crate) fn have_name_twice(alloc: Global, keys: &[Key]) -> Result<bool, AllocError>
+    ensures { IfOk result (λ twice. twice ≡ spec.have_name_twice keys.now) }
 {
-    let mut rest = keys;
-    while let Some((key, behind)) = rest.split_first() {
-        if is_named_again(&key.form, behind) {
-            return true;
+    let mut noted = BTreeMap::new(alloc);
+    let mut place = keys.len();
+    while place > 0 {
+        place -= 1;
+        if note_again(&mut noted, &keys[place].form)? {
+            return Ok(true);
         }
-        rest = behind;
     }
-    false
-}
-
-/// The turns of each name.
-pub(crate) fn turns_of_each(
-    alloc: Global,
-    names: &[Text],
-    keys: &[Key],
-) -> Result<Seq<Seq<Turn>>, AllocError>
-    ensures { IfOk result (λ turns. turns ≡ map (turns_of keys.now) names.now) }
-{
-    let mut turns = Seq::new(alloc);
-    for name in names {
-        turns.push(turns_of(alloc, name.as_str(), keys)?)?;
-    }
-    Ok(turns)
+    Ok(false)
 }

@@ -1,10 +1,17 @@
 //! The order in which the texts of one name are joined.
-ghost use Rattle.std.specs.Prelude.{◌≡◌, ◌<◌, length, map, IfOk, IfSome, OnOk};
+ghost use Rattle.std.specs.Prelude.{◌≡◌, map, option_and_then, IfOk, OnOk};
+ghost use Rattle.function_rules.specs.Lists.{sorted_by};
 ghost use Rattle.dissect_grok.specs.Joined as spec;
+ghost use Rattle.dissect_grok.specs.Numbered.{AreDistinct, number_at, put_at, turn_order, turns_at};
+ghost use Rattle.dissect_grok.specs.Patterns.{name_in};
 
+use crate::index::{Index, index_of};
 use crate::keys::{Form, Key};
+use crate::lists::{add_at, empty_lists};
+use crate::names::name_in;
 use esql_types::{Seq, Text};
 use std::alloc::{AllocError, Global};
+use std::cmp::Ordering;
 
 /// The place of a key among the keys, and the number by which its text is ordered.
 #[derive(Clone, Copy, Debug, Drop)]
@@ -22,45 +29,71 @@ fn order_in(form: &Form) -> u32
     }
 }
 
-fn has_name(name: &str, form: &Form) -> bool
-    ensures { result ≡ spec.has_name name.now form.now }
+// Adds the turn of a key to the turns of its name.
+fn add_turn(
+    lists: &mut Vec<Seq<Turn>>,
+    index: &Index<'_>,
+    form: &Form,
+    place: usize,
+) -> Result<(), AllocError>
+    ensures { OnOk result (lists.new.items
+        ≡ put_at (option_and_then (number_at index.now) (name_in form.now)) lists.old.items (record { order = spec.order_in form.now; place = place })) }
 {
-    match form {
-        Form::Skipped => false,
-        Form::Named(other) => name == other.as_str(),
-        Form::Appended(other, _) => name == other.as_str(),
-    }
-}
-
-// The place of the first turn of a greater order.
-fn first_later(turns: &[Turn], turn: Turn) -> Option<usize>
-    ensures is { result ≡ spec.first_later turn turns.now }
-    ensures within { IfSome result (λ place. place < length turns.now) }
-{
-    turns.iter().position(|other| turn.order < other.order)
-}
-
-// Adds a turn before the first one of a greater order.
-fn add_turn(turns: &mut Vec<Turn>, turn: Turn) -> Result<(), AllocError>
-    ensures { OnOk result (turns.new.items ≡ spec.with_turn turns.old.items turn) }
-{
-    let place = first_later(turns.as_slice(), turn).unwrap_or(turns.len());
-    turns.insert(place, turn)?;
-    Ok(())
-}
-
-/// The turns of the keys of a name.
-pub(crate) fn turns_of(alloc: Global, name: &str, keys: &[Key]) -> Result<Seq<Turn>, AllocError>
-    ensures { IfOk result (λ turns. turns ≡ spec.turns_of keys.now name.now) }
-{
-    let mut turns = Vec::new(alloc);
-    for (place, key) in keys.iter().enumerate() {
-        if has_name(name, &key.form) {
-            let order = order_in(&key.form);
-            add_turn(&mut turns, Turn { order, place })?;
+    let Some(name) = name_in(form) else {
+        return Ok(());
+    };
+    match index.get(name) {
+        Some(number) => {
+            let order = order_in(form);
+            add_at(lists, *number, Turn { order, place })
         }
+        None => Ok(()),
     }
-    Ok(Seq::from_vec(turns))
+}
+
+// The turns of each name by the places of their keys.
+fn turns_by_place(alloc: Global, names: &[Text], keys: &[Key]) -> Result<Vec<Seq<Turn>>, AllocError>
+    requires { AreDistinct names.now }
+    ensures { IfOk result (λ lists. lists.items ≡ map (turns_at 0 keys.now) names.now) }
+{
+    let index = index_of(alloc, names)?;
+    let mut lists = empty_lists(alloc, names.len())?;
+    for (place, key) in keys.iter().enumerate() {
+        add_turn(&mut lists, &index, &key.form, place)?;
+    }
+    Ok(lists)
+}
+
+fn compare_turns(left: &Turn, right: &Turn) -> Ordering
+    ensures { result ≡ turn_order left.now right.now }
+{
+    left.order
+        .cmp(&right.order)
+        .then(left.place.cmp(&right.place))
+}
+
+fn in_order(turns: Seq<Turn>) -> Seq<Turn>
+    ensures { result ≡ sorted_by turn_order turns }
+{
+    let mut turns = turns.into_vec();
+    turns.sort_unstable_by(|left, right| compare_turns(left, right));
+    Seq::from_vec(turns)
+}
+
+/// The turns of each name.
+pub(crate) fn turns_of_each(
+    alloc: Global,
+    names: &[Text],
+    keys: &[Key],
+) -> Result<Seq<Seq<Turn>>, AllocError>
+    requires { AreDistinct names.now }
+    ensures { IfOk result (λ turns. turns ≡ map (spec.turns_of keys.now) names.now) }
+{
+    let mut turns = Seq::new(alloc);
+    for list in turns_by_place(alloc, names, keys)? {
+        turns.push(in_order(list))?;
+    }
+    Ok(turns)
 }
 
 // The text of the key whose turn it is.
