@@ -1,0 +1,12 @@
+pub mod AtRow
+pub mod Columned
+pub mod CutTexts
+pub mod Cuts
+pub mod FirstOf
+pub mod Flat
+pub mod Gets
+pub mod Growth
+pub mod Keeps
+pub mod Lawful
+pub mod Numbers
+pub mod OfKind

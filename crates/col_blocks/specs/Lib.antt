@@ -1,0 +1,9 @@
+pub mod Building
+pub mod Cells
+pub mod Kept
+pub mod Laws
+pub mod Pages
+pub mod Pieces
+pub mod Rows
+pub mod Seen
+pub mod Stored
