@@ -47,3 +47,7 @@ placed_line text at message =
 -- the line that refuses a part of the query, with the place of its start
 abbrev pub refusal_line : List ℕ → Refusal → Span → List ℕ
 refusal_line text refusal span = placed_line text span.from (message_of refusal (text_at text span))
+
+-- the line that refuses a name which the part of the query stands for, with the place of its start
+abbrev pub named_refusal_line : List ℕ → Refusal → List ℕ → Span → List ℕ
+named_refusal_line text refusal name span = placed_line text span.from (message_of refusal name)

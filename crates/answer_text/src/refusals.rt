@@ -2,7 +2,7 @@
 ghost use Rattle.std.specs.Prelude.{◌≡◌, ◌≤◌, ◌<◌, ◌++◌, IfOk, OnOk};
 ghost use Rattle.std.specs.Str.{IsCharBoundary};
 ghost use Rattle.std.specs.String.{string_bytes};
-ghost use Rattle.answer_text.specs.Refusals.{refusal_line, placed_line, message_of, in_brackets};
+ghost use Rattle.answer_text.specs.Refusals.{refusal_line, named_refusal_line, placed_line, message_of, in_brackets};
 
 use esql_types::{Place, Span, Text, place_of};
 use std::alloc::{AllocError, Global};
@@ -78,8 +78,24 @@ pub fn refusal_line(
     ensures { IfOk result (λ t. t ≡ refusal_line text.now refusal span) }
 {
     let part = &text[span.from as usize..span.to as usize];
+    named_refusal_line(alloc, text, refusal, part, span)
+}
+
+/// The line that refuses a name for which a part of a query stands: the place of the part's start, and the message, which may name
+/// the name.
+pub fn named_refusal_line(
+    alloc: Global,
+    text: &str,
+    refusal: Refusal,
+    name: &str,
+    span: Span,
+) -> Result<Text, AllocError>
+    requires begins { IsCharBoundary text.now span.from }
+    requires short { span.from < 4294967295 }
+    ensures { IfOk result (λ t. t ≡ named_refusal_line text.now refusal name.now span) }
+{
     let mut message = String::new(alloc);
-    push_message(&mut message, refusal, part)?;
+    push_message(&mut message, refusal, name)?;
     placed_line(alloc, text, span.from, &message)
 }
 

@@ -130,6 +130,10 @@ fn refusals(rt: HostRuntime) -> Result<(), Fail> {
             );
         }
     }
+    if let Some(span) = span_in(text, 17, 19) {
+        let line = named_refusal_line(rt.alloc(), text, Refusal::UnknownTable, "t", span)?;
+        assert_eq!(rt; line.as_str(), "line 2:8: unknown table [t]\n");
+    }
     assert_eq!(rt; out_of_memory(), "out of memory\n");
     assert!(rt; usage().starts_with("usage: esql [--data DIR]"));
     Ok(())
