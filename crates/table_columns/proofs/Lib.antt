@@ -1,0 +1,11 @@
+pub mod Cells
+pub mod Empty
+pub mod Fills
+pub mod Found
+pub mod Items
+pub mod Kept
+pub mod Lawful
+pub mod Places
+pub mod Presents
+pub mod Rises
+pub mod Rows
