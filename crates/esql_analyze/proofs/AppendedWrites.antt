@@ -29,14 +29,14 @@ use Rattle.query_semantics.proofs.Named.{columns_put}
 use Rattle.expression_analysis.specs.declared.error.AnalyzeError.{AnalyzeError}
 use Rattle.expression_analysis.specs.declared.error.AnalyzeError.TheVariants.{Broken as BrokenAt, PatternRoom, Memory}
 use Rattle.expression_analysis.specs.Answers.{scope_of, IsRefusal, IsUntouched}
-use Rattle.esql_analyze.specs.declared.writing.Writing.{Writing as Made}
+use Rattle.plan_writing.specs.declared.writing.Writing.{Writing as Made}
 use Rattle.esql_analyze.specs.declared.appended.Appended.{Appended}
-use Rattle.esql_analyze.specs.Writings.{seen, HasRoom}
-use Rattle.esql_analyze.specs.Answers.{IsHeard}
+use Rattle.plan_writing.specs.Writings.{seen, HasRoom}
+use Rattle.plan_writing.specs.Answers.{IsHeard}
 use Rattle.esql_analyze.proofs.CommandWrites.{IsPlain, other_plain}
-use Rattle.esql_analyze.proofs.PlainRooms.{input_room}
-use Rattle.esql_analyze.proofs.Stays.{expr_stays}
-use Rattle.esql_analyze.proofs.ShapeStays.{refused_behind, refused_as}
+use Rattle.plan_writing.proofs.PlainRooms.{input_room}
+use Rattle.plan_writing.proofs.Stays.{expr_stays}
+use Rattle.plan_writing.proofs.Refusals.{refused_behind, refused_as}
 
 -- new columns among those that can be seen are new columns of the shape
 pub columns_new : (visible : List OutColumn) (columns : List Column) (next : ℕ) → columns_of (put_new visible columns next) ≡ put_columns (columns_of visible) columns

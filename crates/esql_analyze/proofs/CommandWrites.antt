@@ -23,11 +23,12 @@ use Rattle.query_semantics.specs.Written.{write_kind, write_command}
 use Rattle.expression_analysis.specs.declared.error.AnalyzeError.{AnalyzeError}
 use Rattle.expression_analysis.specs.declared.error.AnalyzeError.TheVariants.{Broken as BrokenAt, PatternRoom, Memory}
 use Rattle.expression_analysis.specs.Answers.{IsUntouched}
-use Rattle.esql_analyze.specs.declared.writing.Writing.{Writing as Made}
-use Rattle.esql_analyze.specs.Contexts.{over_catalog}
-use Rattle.esql_analyze.specs.Writings.{seen}
-use Rattle.esql_analyze.specs.Answers.{Writes, Hears}
-use Rattle.esql_analyze.proofs.ShapeStays.{refused_behind, kind_stays}
+use Rattle.plan_writing.specs.declared.writing.Writing.{Writing as Made}
+use Rattle.plan_writing.specs.Contexts.{over_catalog}
+use Rattle.plan_writing.specs.Writings.{seen}
+use Rattle.plan_writing.specs.Answers.{Writes, Hears}
+use Rattle.plan_writing.proofs.Refusals.{refused_behind}
+use Rattle.esql_analyze.proofs.ShapeStays.{kind_stays}
 
 -- a shape that refuses no pattern
 abbrev pub IsPlain : Shape → Type 0

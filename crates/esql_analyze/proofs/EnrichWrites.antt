@@ -27,12 +27,12 @@ use Rattle.expression_analysis.specs.Answers.{IsRefusal}
 use Rattle.visible_columns.specs.declared.columns.Shown.{Shown}
 use Rattle.visible_columns.specs.Columns.{shown_of}
 use Rattle.esql_analyze.specs.declared.policy_fields.Taken.{Taken}
-use Rattle.esql_analyze.specs.declared.writing.Writing.{Writing as Made}
+use Rattle.plan_writing.specs.declared.writing.Writing.{Writing as Made}
 use Rattle.esql_analyze.specs.Policies.{AreTaken}
-use Rattle.esql_analyze.specs.Writings.{seen}
+use Rattle.plan_writing.specs.Writings.{seen}
 use Rattle.esql_analyze.proofs.AppendedWrites.{columns_new}
 use Rattle.esql_analyze.proofs.ExpandWrites.{seen_column, names_alike}
-use Rattle.esql_analyze.proofs.ShapeStays.{refused_as}
+use Rattle.plan_writing.proofs.Refusals.{refused_as}
 
 -- the policies and their fields are few ------------------------------------------------------------------------------------
 

@@ -18,8 +18,8 @@ use Rattle.query_semantics.specs.Written.{renumbered, write_expand_of, write_exp
 use Rattle.query_semantics.proofs.Named.{columns-renumbered}
 use Rattle.visible_columns.specs.declared.columns.Shown.{Shown}
 use Rattle.visible_columns.specs.Columns.{shown_of}
-use Rattle.esql_analyze.specs.declared.writing.Writing.{Writing as Made}
-use Rattle.esql_analyze.specs.Writings.{seen}
+use Rattle.plan_writing.specs.declared.writing.Writing.{Writing as Made}
+use Rattle.plan_writing.specs.Writings.{seen}
 
 abbrev pub seen_column : OutColumn → Column
 seen_column column = record { name = column.name; kind = column.kind }

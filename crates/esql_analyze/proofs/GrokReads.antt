@@ -17,7 +17,7 @@ use Rattle.query_semantics.specs.AppendedShapes.{regular_of_grok, shape_of_grok_
 use Rattle.query_semantics.specs.Shapes.{Shape}
 use Rattle.expression_analysis.specs.Answers.{accepted_but, same_span, IsRefusal, OneIsNoted}
 use Rattle.expression_analysis.proofs.Regexes.{unreadable}
-use Rattle.esql_analyze.specs.Answers.{IsHeard}
+use Rattle.plan_writing.specs.Answers.{IsHeard}
 use Rattle.esql_analyze.specs.Names.{told_of_grok}
 use Rattle.esql_analyze.specs.Regulars.{regulars_of_grok}
 

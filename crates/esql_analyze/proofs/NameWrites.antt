@@ -22,12 +22,12 @@ use Rattle.query_semantics.proofs.Named.{names_of-columns, columns-kept, columns
 use Rattle.expression_analysis.specs.declared.error.AnalyzeError.{AnalyzeError}
 use Rattle.expression_analysis.specs.declared.error.AnalyzeError.TheVariants.{Broken as BrokenAt, PatternRoom, Memory}
 use Rattle.expression_analysis.specs.Answers.{IsRefusal}
-use Rattle.esql_analyze.specs.declared.writing.Writing.{Writing as Made}
-use Rattle.esql_analyze.specs.declared.columns.Apart.{Apart}
+use Rattle.plan_writing.specs.declared.writing.Writing.{Writing as Made}
+use Rattle.plan_writing.specs.declared.columns.Apart.{Apart}
 use Rattle.visible_columns.specs.Columns.{shown_of}
-use Rattle.esql_analyze.specs.Writings.{seen, joined, shown_under}
+use Rattle.plan_writing.specs.Writings.{seen, joined, shown_under}
 use Rattle.esql_analyze.specs.Names.{IsMemory, IsPatternError, IsPairError}
-use Rattle.esql_analyze.proofs.Parted.{joined_apart, shown_renamed}
+use Rattle.plan_writing.proofs.Parted.{joined_apart, shown_renamed}
 
 -- the columns whose names were taken apart
 pub apart_is : (visible : List OutColumn) (apart : Apart) → apart.names ≡ visible_names visible → apart.shown ≡ map shown_of visible → joined apart.names apart.shown ≡ visible

@@ -8,9 +8,10 @@ use Rattle.row_semantics.specs.Regulars.{is_accepted}
 use Rattle.query_semantics.specs.Shapes.{shape_of_source, shape_of_commands, shape_in}
 use Rattle.expression_analysis.specs.declared.error.AnalyzeError.{AnalyzeError}
 use Rattle.expression_analysis.specs.Answers.{IsRefusal}
-use Rattle.esql_analyze.specs.declared.writing.Writing.{Writing as Made}
-use Rattle.esql_analyze.specs.Contexts.{over_catalog}
-use Rattle.esql_analyze.proofs.ShapeStays.{refused_behind, source_stays}
+use Rattle.plan_writing.specs.declared.writing.Writing.{Writing as Made}
+use Rattle.plan_writing.specs.Contexts.{over_catalog}
+use Rattle.plan_writing.proofs.Refusals.{refused_behind}
+use Rattle.esql_analyze.proofs.ShapeStays.{source_stays}
 
 -- and one that is broken by a command behind it
 pub commands_refused : (text : List ℕ) (catalog : Catalog) (query : Query) (begun : Made) (error : AnalyzeError) → shape_of_source (over_catalog text catalog is_accepted) query.source ≡ Ok (columns_of begun.visible)

@@ -10,7 +10,6 @@ use Rattle.std.proofs.lemmas.Map.Steps.{length-le_from_distinct_below}
 use Rattle.esql_types.specs.declared.names.Column.{Column}
 use Rattle.esql_types.specs.declared.names.NodeId.{NodeId}
 use Rattle.esql_ast.specs.declared.expr.Expr.{Expr}
-use Rattle.esql_ast.specs.declared.query.Field.{Field}
 use Rattle.esql_ast.specs.declared.query.SortKey.{SortKey}
 use Rattle.esql_ast.specs.declared.query.NameAt.{NameAt}
 use Rattle.esql_ast.specs.declared.query.EnrichItem.{EnrichItem}
@@ -21,7 +20,7 @@ use Rattle.esql_ast.specs.declared.query.NamePattern.{NamePattern}
 use Rattle.esql_ast.specs.declared.query.RenamePair.{RenamePair}
 use Rattle.name_rules.specs.NameRules.{Renaming, placed_from, placed, keep_places, drop_places, is_met, at_places, stays, with_new_name, rename_pair, is_there, with_pair, renamings, renamed_by}
 use Rattle.name_rules.specs.NameLaws.{IsKept}
-use Rattle.esql_ast.specs.Nodes.{nodes_of_expr, nodes_of_field, nodes_of_key, nodes_of_kind, nodes_of_command}
+use Rattle.esql_ast.specs.Nodes.{nodes_of_expr, nodes_of_key, nodes_of_kind, nodes_of_command}
 use Rattle.name_rules.proofs.KeptOnce.{kept_differ, kept_are_won}
 use Rattle.esql_plan.specs.declared.catalog.PolicyShape.{PolicyShape}
 use Rattle.esql_plan.specs.declared.plan.OutColumn.{OutColumn}
@@ -33,16 +32,16 @@ use Rattle.dissect_grok.specs.Patterns.{Reading, reading_of}
 use Rattle.dissect_grok.specs.Groks.{GrokRead, grok_of}
 use Rattle.plan_semantics.specs.Taken.{dissect_columns, columns_in_grok}
 use Rattle.row_semantics.specs.Typed.{typing_of, visible_named}
-use Rattle.query_semantics.specs.Writings.{Writing, put_visible, visible_names, visible_as, typed_in, write_input, input_of}
+use Rattle.query_semantics.specs.Writings.{Writing, put_visible, visible_names, visible_as, write_input, input_of}
 use Rattle.query_semantics.specs.Appended.{FoundPolicy, policy_named, matched_name, FieldTaken, fields_taken, taken_columns, taken_numbers}
 use Rattle.query_semantics.specs.Sizes.{fields_appended, appended_by}
 use Rattle.query_semantics.specs.WrittenAppended.{put_new, write_new, dissect_cutters, grok_cutters, write_matched, write_policy}
-use Rattle.query_semantics.specs.Written.{write_field, write_fields, write_condition, write_keys, write_sort, renumbered, write_expand_of, write_expand, write_kind, write_command}
-use Rattle.row_semantics.specs.Fields.{name_of_field}
-use Rattle.esql_analyze.specs.Writings.{HasRoom}
-use Rattle.esql_analyze.proofs.Expressions.{patterns_at_most, some_node}
-use Rattle.esql_analyze.proofs.PlainRooms.{filter_shorter, put_shown, less_room, same_room, input_room}
-use Rattle.esql_analyze.proofs.StatsRooms.{stats_room}
+use Rattle.query_semantics.specs.Written.{write_condition, write_keys, write_sort, renumbered, write_expand_of, write_expand, write_kind, write_command}
+use Rattle.plan_writing.specs.Writings.{HasRoom}
+use Rattle.plan_writing.proofs.Expressions.{patterns_at_most}
+use Rattle.plan_writing.proofs.FieldTurns.{fields_room}
+use Rattle.plan_writing.proofs.PlainRooms.{filter_shorter, put_shown, less_room, same_room, input_room}
+use Rattle.stats_writing.proofs.StatsRooms.{stats_room}
 
 -- lengths -------------------------------------------------------------------------------------------------------------------
 
@@ -111,27 +110,6 @@ renamed_shown pairs visible =
     )
 
 -- room ----------------------------------------------------------------------------------------------------------------------
-
-pub field_room : (text : List ℕ) (field : Field) (writing : Writing) (more : ℕ) → HasRoom writing (length (nodes_of_field field) + more) → HasRoom (write_field text writing field) more
-field_room text field writing more room =
-    let most = patterns_at_most field.expr in
-    let some = some_node field.expr in
-    let shown = put_shown writing.visible (name_of_field text field) (typed_in writing field.expr).kind writing.next in
-    record {
-      shown = omega (arith, room.shown, shown, some);
-      columns = omega (arith, room.columns, some);
-      whole = omega (arith, room.whole, most.whole, length-append writing.whole (typing_of field.expr).whole);
-      free = omega (arith, room.free, most.free, length-append writing.free (typing_of field.expr).free);
-      cutters = omega (arith, room.cutters);
-    }
-
-pub fields_room : (text : List ℕ) (fields : List Field) (writing : Writing) (more : ℕ) → HasRoom writing (length (flat_map nodes_of_field fields) + more) → HasRoom (write_fields text fields writing) more
-fields_room text [] writing more room = record { shown = omega (arith, room.shown); columns = omega (arith, room.columns); whole = omega (arith, room.whole); free = omega (arith, room.free); cutters = omega (arith, room.cutters) }
-fields_room text (field ∷ fields) writing more room =
-    let both = length-append (nodes_of_field field) (flat_map nodes_of_field fields) in
-    let ahead : HasRoom writing (length (nodes_of_field field) + (length (flat_map nodes_of_field fields) + more)) =
-    record { shown = omega (arith, room.shown, both); columns = omega (arith, room.columns, both); whole = omega (arith, room.whole, both); free = omega (arith, room.free, both); cutters = omega (arith, room.cutters, both) } in
-    fields_room text fields (write_field text writing field) more (field_room text field writing _ ahead)
 
 condition_room : (node : NodeId) (condition : Expr) (writing : Writing) (more : ℕ) → HasRoom writing (length (nodes_of_expr condition) + more) → HasRoom (write_condition node condition writing) more
 condition_room node condition writing more room =

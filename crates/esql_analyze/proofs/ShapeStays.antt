@@ -1,13 +1,11 @@
--- Where one more pattern is not accepted, the shapes of commands are as they were, or refuse at that pattern; and how refusals go
--- on behind what was judged before.
-use Rattle.std.proofs.Common.{◌≡◌, inl, inr, ℕ, Bool, true, false, List, [], ◌∷◌, Option, Some, None, Result, Ok, Err, refl, ap, ◌∙◌}
+-- Where one more pattern is not accepted, the shapes of commands are as they were, or refuse at that pattern.
+use Rattle.std.proofs.Common.{◌≡◌, inl, ℕ, Bool, true, false, List, [], ◌∷◌, Option, Some, None, Result, Ok, Err, refl, ap}
 use Rattle.std.specs.Prelude.{if◌then◌else◌}
 use Rattle.esql_types.specs.declared.places.Span.{Span}
 use Rattle.esql_types.specs.declared.value.Kind.{Kind}
 use Rattle.esql_types.specs.declared.value.Kind.TheVariants as kind
 use Rattle.esql_types.specs.declared.names.Column.{Column}
 use Rattle.esql_ast.specs.declared.expr.Expr.{Expr}
-use Rattle.esql_ast.specs.declared.query.Field.{Field}
 use Rattle.esql_ast.specs.declared.query.SortKey.{SortKey}
 use Rattle.esql_ast.specs.declared.query.Command.{Command}
 use Rattle.esql_ast.specs.declared.query.CommandKind.{CommandKind}
@@ -21,57 +19,18 @@ use Rattle.dissect_grok.specs.Patterns.{reading_of}
 use Rattle.dissect_grok.specs.Groks.{GrokRead, grok_of}
 use Rattle.plan_semantics.specs.Taken.{columns_of_grok}
 use Rattle.row_semantics.specs.declared.rule.NameRule.TheVariants as rule
-use Rattle.row_semantics.specs.Fields.{name_of_field}
-use Rattle.row_semantics.specs.Columns.{put_column}
-use Rattle.row_semantics.specs.Regulars.{Regular, is_accepted}
+use Rattle.row_semantics.specs.Regulars.{Regular}
 use Rattle.row_semantics.specs.Scopes.{Broken, elsewhere}
 use Rattle.row_semantics.specs.Kinds.{breaks, and_then, kind_or_rule}
 use Rattle.query_semantics.specs.Appended.{put_columns}
 use Rattle.query_semantics.specs.AppendedShapes.{if_keyword, shape_of_reading, shape_of_dissect, regular_of_grok, shape_of_grok_read, shape_of_grok}
-use Rattle.query_semantics.specs.Shapes.{Shape, Context, scope_over, shape_of_keys, shape_of_field, shape_of_fields, shape_of_condition, shape_of_kind, unless_empty, shape_of_command, shape_of_source}
-use Rattle.expression_analysis.specs.declared.error.AnalyzeError.{AnalyzeError}
-use Rattle.expression_analysis.specs.declared.error.AnalyzeError.TheVariants.{Broken as BrokenAt, PatternRoom, Memory}
-use Rattle.expression_analysis.specs.Answers.{accepted_but, IsRefusal}
-use Rattle.esql_analyze.specs.Contexts.{over, over_catalog}
-use Rattle.esql_analyze.proofs.Stays.{Stays, then_stays, expr_stays, regular_stays}
-use Rattle.esql_analyze.proofs.StatsStays.{stats_stay}
-
--- what is refused behind something that is found refuses both
-pub refused_behind : {A B : Type 0} (first : (Regular → Bool) → Result A Broken) (next : (Regular → Bool) → A → Result B Broken) (value : A) (error : AnalyzeError) → Stays first → first is_accepted ≡ Ok value
-    → IsRefusal (λ accepts. next accepts value) error → IsRefusal (λ accepts. and_then (first accepts) (next accepts)) error
-refused_behind first next value (BrokenAt rule span) stays is refused = ap (λ r. and_then r (next is_accepted)) is ∙ refused
-refused_behind first next value (PatternRoom span) stays is refused =
-    elim (stays span) [
-      | inl as_before ↦ ap (λ r. and_then r (next (accepted_but span))) (as_before ∙ is) ∙ refused
-      | inr refuses ↦ ap (λ r. and_then r (next (accepted_but span))) refuses
-    ]
-refused_behind first next value (Memory error) stays is refused = tt
-
--- what is refused first refuses both
-pub refused_first : {A B : Type 0} (first : (Regular → Bool) → Result A Broken) (next : (Regular → Bool) → A → Result B Broken) (error : AnalyzeError)
-    → IsRefusal first error → IsRefusal (λ accepts. and_then (first accepts) (next accepts)) error
-refused_first first next (BrokenAt rule span) refused = ap (λ r. and_then r (next is_accepted)) refused
-refused_first first next (PatternRoom span) refused = ap (λ r. and_then r (next (accepted_but span))) refused
-refused_first first next (Memory error) refused = tt
-
--- a judgement that is another one refuses as it does
-pub refused_as : {A : Type 0} (this that : (Regular → Bool) → Result A Broken) (error : AnalyzeError) → ((accepts : Regular → Bool) → this accepts ≡ that accepts) → IsRefusal that error → IsRefusal this error
-refused_as this that (BrokenAt rule span) same refused = same is_accepted ∙ refused
-refused_as this that (PatternRoom span) same refused = same (accepted_but span) ∙ refused
-refused_as this that (Memory error) same refused = tt
+use Rattle.query_semantics.specs.Shapes.{Shape, Context, scope_over, shape_of_keys, shape_of_condition, shape_of_kind, unless_empty, shape_of_command, shape_of_source}
+use Rattle.plan_writing.specs.Contexts.{over, over_catalog}
+use Rattle.plan_writing.proofs.Stays.{Stays, then_stays, expr_stays, regular_stays}
+use Rattle.plan_writing.proofs.FieldTurns.{fields_stay}
+use Rattle.stats_writing.proofs.StatsStays.{stats_stay}
 
 -- commands ------------------------------------------------------------------------------------------------------------------
-
-pub field_stays : (text : List ℕ) (field : Field) (columns : List Column) → Stays (λ accepts. shape_of_field (over text accepts) field columns)
-field_stays text field columns =
-    let next : (Regular → Bool) → Kind → Shape = λ accepts kind. Ok (put_column columns (name_of_field text field) kind) in
-    then_stays (λ accepts. kind_or_rule field.expr (scope_over (over text accepts) columns)) next (expr_stays field.expr columns elsewhere) (λ kind span. inl refl)
-
-pub fields_stay : (text : List ℕ) (fields : List Field) (columns : List Column) → Stays (λ accepts. shape_of_fields (over text accepts) fields columns)
-fields_stay text [] columns span = inl refl
-fields_stay text (field ∷ fields) columns span =
-    let next : (Regular → Bool) → List Column → Shape = λ accepts. shape_of_fields (over text accepts) fields in
-    then_stays (λ accepts. shape_of_field (over text accepts) field columns) next (field_stays text field columns) (λ more. fields_stay text fields more) span
 
 condition_stays : (text : List ℕ) (condition : Expr) (columns : List Column) → Stays (λ accepts. shape_of_condition (over text accepts) condition columns)
 condition_stays text condition columns =

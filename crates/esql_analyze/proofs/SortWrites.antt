@@ -16,12 +16,14 @@ use Rattle.query_semantics.specs.Writings.{Writing, input_of, write_input}
 use Rattle.query_semantics.specs.Written.{keys_in_plan, write_sort}
 use Rattle.expression_analysis.specs.declared.error.AnalyzeError.{AnalyzeError}
 use Rattle.expression_analysis.specs.Answers.{scope_of, IsRefusal}
-use Rattle.esql_analyze.specs.declared.writing.Writing.{Writing as Made}
-use Rattle.esql_analyze.specs.Contexts.{over}
-use Rattle.esql_analyze.specs.Writings.{seen}
-use Rattle.esql_analyze.specs.Answers.{Writes}
-use Rattle.esql_analyze.proofs.ShapeStays.{shape_of_key, refused_first, refused_as, keys_alike}
-use Rattle.esql_analyze.proofs.Turns.{Along, keys_turn}
+use Rattle.plan_writing.specs.declared.writing.Writing.{Writing as Made}
+use Rattle.plan_writing.specs.Contexts.{over}
+use Rattle.plan_writing.specs.Writings.{seen}
+use Rattle.plan_writing.specs.Answers.{Writes}
+use Rattle.esql_analyze.proofs.ShapeStays.{shape_of_key, keys_alike}
+use Rattle.plan_writing.proofs.Refusals.{refused_first, refused_as}
+use Rattle.plan_writing.proofs.Turns.{Along}
+use Rattle.esql_analyze.proofs.CommandTurns.{keys_turn}
 
 -- the keys so far, with one more
 pub keys_behind : (so_far pushed all : List PlanKey) (key : SortKey) (rest : List SortKey) (id : ColId) (made new : Made) → so_far ++ keys_in_plan (key ∷ rest) (seen made) ≡ all

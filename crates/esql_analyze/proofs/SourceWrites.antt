@@ -29,12 +29,12 @@ use Rattle.expression_analysis.specs.Answers.{IsRefusal}
 use Rattle.source_columns.specs.declared.refusals.SourceError.{SourceError}
 use Rattle.source_columns.specs.declared.refusals.SourceError.TheVariants as source_error
 use Rattle.source_columns.specs.Refusals.{IsRefusal as IsSourceRefusal}
-use Rattle.esql_analyze.specs.declared.writing.Writing.{Writing as Made}
+use Rattle.plan_writing.specs.declared.writing.Writing.{Writing as Made}
 use Rattle.esql_analyze.specs.declared.source.Begun.{Begun}
-use Rattle.esql_analyze.specs.Writings.{seen}
+use Rattle.plan_writing.specs.Writings.{seen}
 use Rattle.esql_analyze.specs.Plans.{IsScanned, IsScanError, Begins, shape_of_tables, tables_in_plan, write_tables}
-use Rattle.esql_analyze.specs.Answers.{Hears}
-use Rattle.esql_analyze.proofs.ShapeStays.{refused_as}
+use Rattle.plan_writing.specs.Answers.{Hears}
+use Rattle.plan_writing.proofs.Refusals.{refused_as}
 use Rattle.esql_analyze.proofs.NameWrites.{as_told, in_memory}
 use Rattle.esql_analyze.proofs.CommandWrites.{IsPlain, other_plain, empty_plain}
 

@@ -22,8 +22,8 @@ use Rattle.query_semantics.specs.Catalogs.{entries_of, IsCatalog}
 use Rattle.query_semantics.specs.Written.{writing_of_columns, numbered_from, write_source}
 use Rattle.query_semantics.proofs.Kinded.{found_of, ok_is}
 use Rattle.query_semantics.proofs.Ordered.{tables_distinct}
-use Rattle.esql_analyze.specs.Writings.{HasRoom}
-use Rattle.esql_analyze.proofs.Rooms.{fields_room}
+use Rattle.plan_writing.specs.Writings.{HasRoom}
+use Rattle.plan_writing.proofs.FieldTurns.{fields_room}
 
 abbrev has : List (List ℕ) → List ℕ → Bool
 has names name = list_any (bytes_eq name) names

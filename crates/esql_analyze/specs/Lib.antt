@@ -1,12 +1,4 @@
-pub mod Contexts
-pub mod Writings
-pub mod Answers
 pub mod Names
 pub mod Regulars
 pub mod Plans
-pub mod CallsSeen
-pub mod Parts
-pub mod StatsRules
-pub mod StatsSeen
-pub mod Behind
 pub mod Policies

@@ -19,8 +19,8 @@ use Rattle.expression_analysis.specs.declared.error.AnalyzeError.TheVariants.{Br
 use Rattle.expression_analysis.specs.Answers.{IsRefusal}
 use Rattle.esql_analyze.specs.declared.query.Analyzed.{Analyzed}
 use Rattle.esql_analyze.specs.declared.source.Begun.{Begun}
-use Rattle.esql_analyze.specs.Writings.{seen}
-use Rattle.esql_analyze.specs.Answers.{Writes}
+use Rattle.plan_writing.specs.Writings.{seen}
+use Rattle.plan_writing.specs.Answers.{Writes}
 use Rattle.esql_analyze.specs.Names.{IsMemory}
 
 -- the plan and the patterns that it reads are what is written

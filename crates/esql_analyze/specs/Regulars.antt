@@ -2,9 +2,6 @@
 use Rattle.std.specs.Prelude.{List, [], ◌∷◌, ◌++◌, Option, Some, None}
 use Rattle.std.specs.List.{flat_map}
 use Rattle.esql_types.specs.declared.places.Span.{Span}
-use Rattle.esql_ast.specs.declared.query.Condition.{Condition}
-use Rattle.esql_ast.specs.declared.query.Field.{Field}
-use Rattle.esql_ast.specs.declared.query.StatsField.{StatsField}
 use Rattle.esql_ast.specs.declared.query.SortKey.{SortKey}
 use Rattle.esql_ast.specs.declared.query.Query.{Query}
 use Rattle.esql_ast.specs.declared.query.Command.{Command}
@@ -16,16 +13,7 @@ use Rattle.dissect_grok.specs.Groks.{GrokRead, grok_of}
 use Rattle.row_semantics.specs.Regulars.{Regular}
 use Rattle.query_semantics.specs.AppendedShapes.{regular_of_grok}
 use Rattle.expression_analysis.specs.Answers.{regulars_of_expr}
-
-abbrev pub regulars_of_field : Field → List Regular
-regulars_of_field field = regulars_of_expr field.expr
-
-abbrev pub regulars_of_condition : Option Condition → List Regular
-regulars_of_condition None = []
-regulars_of_condition (Some condition) = regulars_of_expr condition.expr
-
-abbrev pub regulars_of_stats : StatsField → List Regular
-regulars_of_stats stats = regulars_of_field stats.field ++ regulars_of_condition stats.condition
+use Rattle.plan_writing.specs.Regulars.{regulars_of_field, regulars_of_stats}
 
 abbrev pub regulars_of_key : SortKey → List Regular
 regulars_of_key key = regulars_of_expr key.expr

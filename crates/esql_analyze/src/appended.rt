@@ -1,10 +1,9 @@
 ghost use Rattle.std.specs.Prelude.{◌≡◌, ◌≤◌, ◌+◌, length, IfOk};
 ghost use Rattle.query_semantics.specs.WrittenAppended.{put_new, new_columns};
 
-use crate::columns::put_visible;
-use crate::writing::Writing;
 use esql_plan::NewColumn;
 use esql_types::{ColId, Column, Seq};
+use plan_writing::{Writing, put_visible};
 use std::alloc::{AllocError, Global};
 use visible_columns::VisibleColumns;
 

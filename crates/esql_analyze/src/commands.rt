@@ -8,23 +8,22 @@ ghost use Rattle.query_semantics.specs.Catalogs.{IsCatalog};
 ghost use Rattle.query_semantics.specs.Sizes.{appended_by, appended_in};
 ghost use Rattle.query_semantics.specs.Shapes.{shape_of_kind, shape_of_command, shape_of_commands};
 ghost use Rattle.query_semantics.specs.Written.{write_kind, write_command};
-ghost use Rattle.esql_analyze.specs.Contexts.{over_catalog};
-ghost use Rattle.esql_analyze.specs.Writings.{seen, HasRoom};
-ghost use Rattle.esql_analyze.specs.Answers.{Writes, Hears};
+ghost use Rattle.plan_writing.specs.Contexts.{over_catalog};
+ghost use Rattle.plan_writing.specs.Writings.{seen, HasRoom};
+ghost use Rattle.plan_writing.specs.Answers.{Writes, Hears};
 ghost use Rattle.esql_analyze.specs.Regulars.{regulars_of_kind, regulars_of_command};
 
 use crate::cuts::{write_dissect, write_grok};
 use crate::enrich::write_enrich;
 use crate::expand::write_expand;
-use crate::fields::{write_condition, write_fields};
 use crate::names::{write_drop, write_keep, write_rename};
 use crate::sort::write_sort;
-use crate::stats::write_stats;
-use crate::writing::{Writing, unless_empty, write_limit};
 use esql_ast::{Command, CommandKind};
 use esql_plan::Catalog;
 use esql_types::Maker;
 use expression_analysis::AnalyzeError;
+use plan_writing::{Writing, unless_empty, write_condition, write_fields, write_limit};
+use stats_writing::write_stats;
 use std::alloc::Global;
 
 fn write_kind<M: Maker>(

@@ -15,19 +15,18 @@ ghost use Rattle.query_semantics.specs.Shapes.{Shape};
 ghost use Rattle.query_semantics.specs.Writings.{input_of, write_input};
 ghost use Rattle.query_semantics.specs.WrittenAppended.{write_dissect, write_grok, write_new};
 ghost use Rattle.expression_analysis.specs.Answers.{scope_of, IsRefusal, regulars_of_expr};
-ghost use Rattle.esql_analyze.specs.Writings.{seen, HasRoom};
-ghost use Rattle.esql_analyze.specs.Answers.{Writes, Hears};
+ghost use Rattle.plan_writing.specs.Writings.{seen, HasRoom};
+ghost use Rattle.plan_writing.specs.Answers.{Writes, Hears};
 ghost use Rattle.esql_analyze.specs.Names.{told_of_grok};
 ghost use Rattle.esql_analyze.specs.Regulars.{regulars_of_grok};
 
 use crate::appended::append;
-use crate::inputs::{Input, write_input};
-use crate::writing::Writing;
 use dissect_grok::{Cutter, Dissect, DissectError, Grok, GrokError};
 use esql_ast::{Expr, TextAt};
 use esql_plan::Step;
 use esql_types::{Column, Kind, Maker, NodeId, Seq, Span, Text};
 use expression_analysis::AnalyzeError;
+use plan_writing::{Input, Writing, write_input};
 use row_semantics::NameRule;
 use std::alloc::{AllocError, Global};
 

@@ -9,17 +9,17 @@ ghost use Rattle.query_semantics.specs.AppendedShapes.{shape_of_enrich, shape_of
 ghost use Rattle.query_semantics.specs.Catalogs.{IsCatalog};
 ghost use Rattle.query_semantics.specs.Sizes.{fields_appended};
 ghost use Rattle.query_semantics.specs.WrittenAppended.{write_enrich, write_new, write_policy};
-ghost use Rattle.esql_analyze.specs.Writings.{seen, HasRoom};
-ghost use Rattle.esql_analyze.specs.Answers.{Writes};
+ghost use Rattle.plan_writing.specs.Writings.{seen, HasRoom};
+ghost use Rattle.plan_writing.specs.Answers.{Writes};
 ghost use Rattle.esql_analyze.specs.Policies.{found_of};
 
 use crate::appended::append;
 use crate::policy_fields::{Taken, take_fields};
-use crate::writing::Writing;
 use esql_ast::{EnrichItem, NameAt};
 use esql_plan::{Catalog, PolicyShape, Step};
 use esql_types::{Kind, Seq, Span, Text};
 use expression_analysis::AnalyzeError;
+use plan_writing::Writing;
 use row_semantics::NameRule;
 use std::alloc::{AllocError, Global};
 use visible_columns::Shown;

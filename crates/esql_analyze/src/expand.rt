@@ -4,14 +4,14 @@ ghost use Rattle.plan_semantics.specs.Plans.{columns_of};
 ghost use Rattle.row_semantics.specs.Typed.{visible_named};
 ghost use Rattle.query_semantics.specs.Shapes.{shape_of_expand};
 ghost use Rattle.query_semantics.specs.Written.{write_expand};
-ghost use Rattle.esql_analyze.specs.Writings.{seen, HasRoom};
-ghost use Rattle.esql_analyze.specs.Answers.{Writes};
+ghost use Rattle.plan_writing.specs.Writings.{seen, HasRoom};
+ghost use Rattle.plan_writing.specs.Answers.{Writes};
 
-use crate::writing::Writing;
 use esql_ast::NameAt;
 use esql_plan::Step;
 use esql_types::{ColId, Text};
 use expression_analysis::AnalyzeError;
+use plan_writing::Writing;
 use row_semantics::NameRule;
 use std::alloc::Global;
 use visible_columns::VisibleColumns;

@@ -4,16 +4,15 @@ ghost use Rattle.plan_semantics.specs.Plans.{columns_of};
 ghost use Rattle.query_semantics.specs.Shapes.{shape_of_keep, shape_of_drop, shape_of_rename};
 ghost use Rattle.query_semantics.specs.Writings.{visible_names};
 ghost use Rattle.query_semantics.specs.Written.{write_keep, write_drop, write_rename};
-ghost use Rattle.esql_analyze.specs.Writings.{seen};
-ghost use Rattle.esql_analyze.specs.Answers.{Writes};
+ghost use Rattle.plan_writing.specs.Writings.{seen};
+ghost use Rattle.plan_writing.specs.Answers.{Writes};
 ghost use Rattle.esql_analyze.specs.Names.{IsPatternError, IsPairError};
 
-use crate::columns::{columns_at, columns_renamed, names_apart};
-use crate::writing::Writing;
 use esql_ast::{NamePattern, RenamePair};
 use esql_types::Seq;
 use expression_analysis::AnalyzeError;
 use name_rules::{NameError, RenameError, drop_names, keep_order, rename_pairs};
+use plan_writing::{Writing, columns_at, columns_renamed, names_apart};
 use row_semantics::NameRule;
 use std::alloc::Global;
 

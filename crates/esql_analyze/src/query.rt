@@ -10,19 +10,19 @@ ghost use Rattle.query_semantics.specs.Sizes.{appended_in};
 ghost use Rattle.query_semantics.specs.Shapes.{shape_of, shape_in};
 ghost use Rattle.query_semantics.specs.Written.{written_of, source_in_plan, writing_of};
 ghost use Rattle.expression_analysis.specs.Answers.{IsRefusal, IsTold, IsQuiet};
-ghost use Rattle.esql_analyze.specs.Contexts.{over_catalog};
+ghost use Rattle.plan_writing.specs.Contexts.{over_catalog};
 ghost use Rattle.esql_analyze.specs.Regulars.{regulars_of_query};
 ghost use Rattle.esql_analyze.specs.Plans.{IsWritten, Begins};
-ghost use Rattle.esql_analyze.specs.Answers.{Hears};
+ghost use Rattle.plan_writing.specs.Answers.{Hears};
 
 use crate::commands::write_commands;
 use crate::source::{Begun, write_source};
-use crate::writing::{Writing, write_limit};
 use dissect_grok::Cutter;
 use esql_ast::{Command, CommandKind, Query};
 use esql_plan::{Catalog, Plan};
 use esql_types::{Maker, Seq};
 use expression_analysis::AnalyzeError;
+use plan_writing::{Writing, write_limit};
 use std::alloc::Global;
 use text_match::Patterns;
 

@@ -4,17 +4,16 @@ ghost use Rattle.esql_ast.specs.Nodes.{nodes_of_key};
 ghost use Rattle.plan_semantics.specs.Plans.{columns_of};
 ghost use Rattle.query_semantics.specs.Shapes.{shape_of_keys};
 ghost use Rattle.query_semantics.specs.Written.{write_sort};
-ghost use Rattle.esql_analyze.specs.Contexts.{over};
-ghost use Rattle.esql_analyze.specs.Writings.{seen, HasRoom};
-ghost use Rattle.esql_analyze.specs.Answers.{Writes, Hears};
+ghost use Rattle.plan_writing.specs.Contexts.{over};
+ghost use Rattle.plan_writing.specs.Writings.{seen, HasRoom};
+ghost use Rattle.plan_writing.specs.Answers.{Writes, Hears};
 ghost use Rattle.esql_analyze.specs.Regulars.{regulars_of_key};
 
-use crate::inputs::{Input, write_input};
-use crate::writing::Writing;
 use esql_ast::SortKey;
 use esql_plan::{PlanKey, Step};
 use esql_types::{Maker, Seq};
 use expression_analysis::AnalyzeError;
+use plan_writing::{Input, Writing, write_input};
 use std::alloc::Global;
 
 /// SORT: the inputs of its keys, then one step.

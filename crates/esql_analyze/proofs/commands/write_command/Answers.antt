@@ -1,6 +1,6 @@
 use Rattle.plan_semantics.specs.Plans.{columns_of}
 use Rattle.query_semantics.specs.Shapes.{unless_empty}
-use Rattle.esql_analyze.specs.Writings.{seen}
+use Rattle.plan_writing.specs.Writings.{seen}
 use Rattle.esql_analyze.specs.Regulars.{regulars_of_kind}
 use Rattle.esql_analyze.proofs.CommandWrites.{command_writes, hears_then, empty_plain}
 use Rattle.esql_analyze.proofs.commands.write_command.Goals as goal

@@ -5,13 +5,14 @@ use Rattle.plan_semantics.specs.Plans.{columns_of}
 use Rattle.query_semantics.specs.Shapes.{shape_of_commands}
 use Rattle.query_semantics.specs.Written.{write_command}
 use Rattle.expression_analysis.specs.declared.error.AnalyzeError.{AnalyzeError}
-use Rattle.esql_analyze.specs.declared.writing.Writing.{Writing as Made}
-use Rattle.esql_analyze.specs.Contexts.{over_catalog}
-use Rattle.esql_analyze.specs.Writings.{seen}
-use Rattle.esql_analyze.specs.Answers.{Writes, Hears}
+use Rattle.plan_writing.specs.declared.writing.Writing.{Writing as Made}
+use Rattle.plan_writing.specs.Contexts.{over_catalog}
+use Rattle.plan_writing.specs.Writings.{seen}
+use Rattle.plan_writing.specs.Answers.{Writes, Hears}
 use Rattle.esql_analyze.specs.Regulars.{regulars_of_command}
-use Rattle.esql_analyze.proofs.Turns.{Along, commands_turn, along_more, along_refused, dropped, err_is}
-use Rattle.esql_analyze.proofs.Heard.{heard_more, untouched_more, within_one}
+use Rattle.plan_writing.proofs.Turns.{Along, along_more, along_refused, dropped, err_is}
+use Rattle.esql_analyze.proofs.CommandTurns.{commands_turn}
+use Rattle.plan_writing.proofs.Heard.{heard_more, untouched_more, within_one}
 use Rattle.esql_analyze.proofs.commands.write_commands.Goals as goal
 
 pub returns-in_err-writing-clause-writes : goal.returns-in_err-writing-clause-writes

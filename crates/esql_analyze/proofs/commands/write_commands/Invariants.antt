@@ -1,6 +1,7 @@
 use Rattle.std.proofs.Common.{drop}
 use Rattle.expression_analysis.specs.Answers.{IsUntouched}
-use Rattle.esql_analyze.proofs.Turns.{Along, commands_turn}
+use Rattle.plan_writing.proofs.Turns.{Along}
+use Rattle.esql_analyze.proofs.CommandTurns.{commands_turn}
 use Rattle.esql_analyze.proofs.commands.write_commands.Given as goal
 
 abbrev pub invariant-loop-command : goal.invariant-loop-command

@@ -5,9 +5,9 @@ use Rattle.esql_ast.specs.declared.query.CommandKind.{CommandKind}
 use Rattle.plan_semantics.specs.Plans.{columns_of}
 use Rattle.query_semantics.specs.Shapes.{shape_of_fields, shape_of_keys, shape_of_kind}
 use Rattle.query_semantics.specs.Written.{write_fields, write_sort, write_kind}
-use Rattle.esql_analyze.specs.Contexts.{over, over_catalog}
-use Rattle.esql_analyze.specs.Writings.{seen}
-use Rattle.esql_analyze.specs.Answers.{Writes}
+use Rattle.plan_writing.specs.Contexts.{over, over_catalog}
+use Rattle.plan_writing.specs.Writings.{seen}
+use Rattle.plan_writing.specs.Answers.{Writes}
 use Rattle.esql_analyze.proofs.SortWrites.{sorts_anywhere}
 use Rattle.esql_analyze.specs.Regulars.{regulars_of_kind}
 use Rattle.query_semantics.specs.AppendedShapes.{shape_of_enrich}

@@ -4,7 +4,7 @@ use Rattle.query_semantics.specs.AppendedShapes.{shape_of_grok_read}
 use Rattle.expression_analysis.specs.declared.error.AnalyzeError.{AnalyzeError}
 use Rattle.expression_analysis.specs.Answers.{IsRefusal}
 use Rattle.expression_analysis.proofs.Regexes.{free_accepted}
-use Rattle.esql_analyze.specs.Answers.{IsHeard}
+use Rattle.plan_writing.specs.Answers.{IsHeard}
 use Rattle.esql_analyze.specs.Regulars.{regulars_of_grok}
 use Rattle.esql_analyze.proofs.GrokReads.{Tells, grok_refused, grok_heard}
 use Rattle.esql_analyze.proofs.cuts.read_grok.Goals as goal

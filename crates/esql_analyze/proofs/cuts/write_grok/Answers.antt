@@ -11,7 +11,7 @@ use Rattle.query_semantics.specs.WrittenAppended.{grok_cutters}
 use Rattle.expression_analysis.specs.Answers.{regulars_of_expr}
 use Rattle.esql_analyze.specs.Regulars.{regulars_of_grok}
 use Rattle.esql_analyze.proofs.AppendedWrites.{cut_written, grok_shape, pattern_refused, room_behind}
-use Rattle.esql_analyze.proofs.Heard.{heard_more, within_front, within_back}
+use Rattle.plan_writing.proofs.Heard.{heard_more, within_front, within_back}
 use Rattle.esql_analyze.proofs.cuts.write_grok.Goals as goal
 
 pub returns-in-Err-clause-writes : goal.returns-in-Err-clause-writes

@@ -3,7 +3,7 @@ use Rattle.name_rules.specs.NameRules.{keep_places, at_places}
 use Rattle.plan_semantics.specs.Plans.{columns_of}
 use Rattle.row_semantics.specs.Columns.{names_of}
 use Rattle.query_semantics.proofs.Named.{names_of-columns}
-use Rattle.esql_analyze.specs.Writings.{joined}
+use Rattle.plan_writing.specs.Writings.{joined}
 use Rattle.esql_analyze.proofs.NameWrites.{kept_writes, pattern_told}
 use Rattle.esql_analyze.proofs.names.write_keep.Goals as goal
 

@@ -3,7 +3,7 @@ use Rattle.std.specs.List.{filter_map}
 use Rattle.esql_ast.specs.declared.query.EnrichItem.{EnrichItem}
 use Rattle.query_semantics.specs.Appended.{taken_item}
 use Rattle.query_semantics.specs.AppendedShapes.{first_unknown}
-use Rattle.esql_analyze.proofs.Turns.{dropped}
+use Rattle.plan_writing.proofs.Turns.{dropped}
 use Rattle.esql_analyze.proofs.PolicyFields.{TakenSoFar, one_taken, item_first, item_known, item_taken}
 use Rattle.esql_analyze.proofs.policy_fields.take_items.Goals as goal
 

@@ -10,16 +10,16 @@ use Rattle.query_semantics.specs.Written.{source_in_plan, writing_of}
 use Rattle.expression_analysis.specs.declared.error.AnalyzeError.{AnalyzeError}
 use Rattle.expression_analysis.specs.Answers.{IsRefusal}
 use Rattle.esql_analyze.specs.declared.source.Begun.{Begun}
-use Rattle.esql_analyze.specs.Answers.{IsHeard, Hears}
-use Rattle.esql_analyze.specs.Contexts.{over_catalog}
+use Rattle.plan_writing.specs.Answers.{IsHeard, Hears}
+use Rattle.plan_writing.specs.Contexts.{over_catalog}
 use Rattle.esql_analyze.specs.Plans.{Begins}
 use Rattle.esql_analyze.specs.Regulars.{regulars_of_source, regulars_of_command, regulars_of_query}
-use Rattle.esql_analyze.specs.Writings.{seen, HasRoom}
-use Rattle.esql_analyze.proofs.Heard.{heard_more, within_front, within_back}
+use Rattle.plan_writing.specs.Writings.{seen, HasRoom}
+use Rattle.plan_writing.proofs.Heard.{heard_more, within_front, within_back}
 use Rattle.esql_analyze.proofs.QueryWrites.{commands_refused}
 use Rattle.esql_analyze.proofs.SourceWrites.{as_many_nodes}
 use Rattle.esql_analyze.proofs.Tables.{source_room}
-use Rattle.esql_analyze.proofs.Turns.{err_is}
+use Rattle.plan_writing.proofs.Turns.{err_is}
 use Rattle.esql_analyze.proofs.query.write_query.Goals as goal
 
 pub write_source-requires-clause-few : goal.write_source-requires-clause-few

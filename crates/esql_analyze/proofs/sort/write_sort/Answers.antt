@@ -6,13 +6,14 @@ use Rattle.plan_semantics.specs.Plans.{columns_of}
 use Rattle.query_semantics.specs.Shapes.{shape_of_keys}
 use Rattle.query_semantics.specs.Written.{keys_in_plan, write_sort}
 use Rattle.expression_analysis.specs.declared.error.AnalyzeError.{AnalyzeError}
-use Rattle.esql_analyze.specs.declared.writing.Writing.{Writing as Made}
-use Rattle.esql_analyze.specs.Contexts.{over}
-use Rattle.esql_analyze.specs.Writings.{seen}
-use Rattle.esql_analyze.specs.Answers.{Writes, Hears}
+use Rattle.plan_writing.specs.declared.writing.Writing.{Writing as Made}
+use Rattle.plan_writing.specs.Contexts.{over}
+use Rattle.plan_writing.specs.Writings.{seen}
+use Rattle.plan_writing.specs.Answers.{Writes, Hears}
 use Rattle.esql_analyze.specs.Regulars.{regulars_of_key}
-use Rattle.esql_analyze.proofs.Turns.{Along, keys_turn, along_more, along_refused, dropped, err_is}
-use Rattle.esql_analyze.proofs.Heard.{heard_more, untouched_more, within_one}
+use Rattle.plan_writing.proofs.Turns.{Along, along_more, along_refused, dropped, err_is}
+use Rattle.esql_analyze.proofs.CommandTurns.{keys_turn}
+use Rattle.plan_writing.proofs.Heard.{heard_more, untouched_more, within_one}
 use Rattle.esql_analyze.proofs.SortWrites.{keys_behind, key_shaped, key_refused, sort_writes}
 use Rattle.esql_analyze.proofs.sort.write_sort.Goals as goal
 

@@ -1,8 +1,9 @@
 use Rattle.std.proofs.Common.{◌≡◌, ◌++◌, drop}
 use Rattle.query_semantics.specs.Written.{keys_in_plan}
 use Rattle.expression_analysis.specs.Answers.{IsUntouched}
-use Rattle.esql_analyze.specs.Writings.{seen}
-use Rattle.esql_analyze.proofs.Turns.{Along, keys_turn}
+use Rattle.plan_writing.specs.Writings.{seen}
+use Rattle.plan_writing.proofs.Turns.{Along}
+use Rattle.esql_analyze.proofs.CommandTurns.{keys_turn}
 use Rattle.esql_analyze.proofs.sort.write_sort.Given as goal
 
 abbrev pub invariant-loop-key : goal.invariant-loop-key

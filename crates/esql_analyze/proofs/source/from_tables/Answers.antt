@@ -3,7 +3,7 @@ use Rattle.expression_analysis.specs.declared.error.AnalyzeError.{AnalyzeError}
 use Rattle.esql_analyze.specs.declared.source.Begun.{Begun}
 use Rattle.esql_analyze.specs.Plans.{Begins, shape_of_tables, tables_in_plan, write_tables}
 use Rattle.esql_analyze.proofs.Tables.{tables_few, columns_few}
-use Rattle.esql_analyze.proofs.Turns.{err_is}
+use Rattle.plan_writing.proofs.Turns.{err_is}
 use Rattle.esql_analyze.proofs.SourceWrites.{tables_begin, source_told, empty_told}
 use Rattle.esql_analyze.proofs.source.from_tables.Goals as goal
 

@@ -4,7 +4,7 @@ use Rattle.esql_ast.specs.declared.query.SourceCommand.{SourceCommand}
 use Rattle.esql_plan.specs.declared.plan.PlanSource.TheVariants.{OneRow}
 use Rattle.query_semantics.specs.Shapes.{shape_of_fields, shape_of_source}
 use Rattle.query_semantics.specs.Written.{source_in_plan, write_fields, write_source, writing_of_columns}
-use Rattle.esql_analyze.specs.Contexts.{over, over_catalog}
+use Rattle.plan_writing.specs.Contexts.{over, over_catalog}
 use Rattle.esql_analyze.specs.Plans.{Begins, tables_in_plan, write_tables}
 use Rattle.esql_analyze.specs.Regulars.{regulars_of_source}
 use Rattle.esql_analyze.proofs.SourceWrites.{tables_hear}

@@ -1,0 +1,11 @@
+pub mod Parted
+pub mod Stays
+pub mod Refusals
+pub mod Expressions
+pub mod FieldWrites
+pub mod Columned
+pub mod InputWrites
+pub mod PlainRooms
+pub mod Turns
+pub mod FieldTurns
+pub mod Heard

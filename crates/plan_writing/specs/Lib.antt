@@ -1,0 +1,4 @@
+pub mod Contexts
+pub mod Writings
+pub mod Answers
+pub mod Regulars

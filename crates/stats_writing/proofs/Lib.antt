@@ -1,0 +1,13 @@
+pub mod StatsStays
+pub mod OneRefused
+pub mod CallsWithin
+pub mod CallsRegulars
+pub mod StatsRooms
+pub mod StatsShown
+pub mod StatsJudged
+pub mod CallsFound
+pub mod StatsTurns
+pub mod Series
+pub mod InputsWritten
+pub mod Behinds
+pub mod StatsWrites

@@ -1,0 +1,5 @@
+pub mod CallsSeen
+pub mod Parts
+pub mod StatsRules
+pub mod StatsSeen
+pub mod Behind
