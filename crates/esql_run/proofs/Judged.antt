@@ -6,6 +6,7 @@ use Rattle.esql_types.specs.Spans.{SpanFits}
 use Rattle.esql_types.specs.declared.places.Span.{Span}
 use Rattle.esql_ast.specs.declared.query.Query.{Query}
 use Rattle.esql_ast.specs.Fits.{QueryFits}
+use Rattle.esql_ast.specs.Uses.{source_names}
 use Rattle.esql_plan.specs.declared.catalog.Catalog.{Catalog}
 use Rattle.ndjson_load.specs.Over.{Over}
 use Rattle.row_semantics.specs.declared.rule.NameRule.{NameRule}
@@ -19,10 +20,8 @@ use Rattle.expression_analysis.specs.declared.error.AnalyzeError.{AnalyzeError}
 use Rattle.expression_analysis.specs.declared.error.AnalyzeError.TheVariants.{Broken, PatternRoom as StoppedByRoom, Memory as LackedMemory}
 use Rattle.expression_analysis.specs.Answers.{accepted_but, IsRefusal, IsTold, IsQuietAt}
 use Rattle.esql_analyze.specs.Regulars.{regulars_of_query}
-use Rattle.table_files.specs.declared.tables.FoundTable.{FoundTable}
 use Rattle.table_files.specs.Catalog.{Gathers}
-use Rattle.table_files.specs.Catalogs.{catalog_of}
-use Rattle.table_files.specs.Uses.{table_names}
+use Rattle.table_files.specs.Found.{Found, nothing}
 use Rattle.esql_words.specs.declared.options.Format.{Format}
 use Rattle.esql_run.specs.declared.rendered.Rendered.{Rendered}
 use Rattle.esql_run.specs.declared.rendered.Unanswered.{Unanswered}
@@ -31,7 +30,7 @@ use Rattle.esql_run.specs.Built.{unbuilt_of}
 use Rattle.esql_run.specs.Made.{outcome_made}
 use Rattle.esql_run.specs.Rooms.{IsRoomOf}
 use Rattle.esql_run.specs.Stopped.{CalledToAnswer, MadeToAnswer, IsUnprepared, ErrorFits}
-use Rattle.esql_run.specs.Tables.{IsTablesOutcome, broken}
+use Rattle.esql_run.specs.Tables.{catalog_found, IsTablesOutcome, broken}
 
 -- the query is judged by its tables, and by which regular expressions are accepted
 abbrev judged : List ℕ → Catalog → Query → (Regular → Bool) → Shape
@@ -49,16 +48,16 @@ error_fits text catalog query (StoppedByRoom span) fits is = placed text catalog
 error_fits text catalog query (LackedMemory error) fits is = tt
 
 -- a broken rule is what the query is refused for
-pub broken_told : (text : List ℕ) (folder : Option (List ℕ)) (format : Format) (held : Held) (query : Query) (tables : List FoundTable) (catalog : Catalog) (error : AnalyzeError) (result : Result Rendered Unanswered) → catalog ≡ catalog_of tables
-    → Gathers folder held 0 (table_names query) (Ok tables) → IsRefusal (judged text catalog query) error → IsUnprepared text error result
+pub broken_told : (text : List ℕ) (folder : Option (List ℕ)) (format : Format) (held : Held) (query : Query) (found : Found) (catalog : Catalog) (error : AnalyzeError) (result : Result Rendered Unanswered) → catalog ≡ catalog_found found
+    → Gathers folder held nothing (source_names query) (Ok found) → IsRefusal (judged text catalog query) error → IsUnprepared text error result
     → IfOk result (λ answer. IsTablesOutcome folder format held text query (outcome_made answer))
-broken_told text folder format held query tables catalog (Broken rule span) (Ok answer) are gathers why is =
+broken_told text folder format held query found catalog (Broken rule span) (Ok answer) are gathers why is =
     let first : BrokenRule = record { rule = rule; span = span } in
-    let shape : shape_of text (catalog_of tables) query ≡ Err first = subst (λ (c : Catalog). judged text c query is_accepted ≡ Err first) are why in
-    subst (IsTablesOutcome folder format held text query) (sym is) (broken tables first gathers shape)
-broken_told text folder format held query tables catalog (StoppedByRoom span) (Ok answer) are gathers why is = absurd is
-broken_told text folder format held query tables catalog (LackedMemory error) (Ok answer) are gathers why is = absurd is
-broken_told text folder format held query tables catalog error (Err unanswered) are gathers why is = tt
+    let shape : shape_of text (catalog_found found) query ≡ Err first = subst (λ (c : Catalog). judged text c query is_accepted ≡ Err first) are why in
+    subst (IsTablesOutcome folder format held text query) (sym is) (broken found first gathers shape)
+broken_told text folder format held query found catalog (StoppedByRoom span) (Ok answer) are gathers why is = absurd is
+broken_told text folder format held query found catalog (LackedMemory error) (Ok answer) are gathers why is = absurd is
+broken_told text folder format held query found catalog error (Err unanswered) are gathers why is = tt
 
 -- no file is opened meanwhile
 pub called_judged : {Files : Type 0} {holds : Files → Held} {faults : Files → ℕ} {failed : Files → List ℕ} (P : List ℕ → Type 0) (text : List ℕ) (error : AnalyzeError) (result : Result Rendered Unanswered) (old new : Files)
@@ -71,25 +70,25 @@ called_judged P text error (Err (PatternRoom line)) old new none is = none
 called_judged P text error (Err (Memory lack)) old new none is = tt
 
 -- the line for a pattern that is too large says what the maker told
-pub made_judged : {Maker : Type 0} (count : Maker → ℕ) (last : Maker → List ℕ) (folder : Option (List ℕ)) (text : List ℕ) (held : Held) (query : Query) (tables : List FoundTable) (catalog : Catalog) (error : AnalyzeError) (result : Result Rendered Unanswered) (old new : Maker)
-    → catalog ≡ catalog_of tables → unbuilt_of query ≡ None → Over held (λ bytes_of. Gathers folder (Some bytes_of) 0 (table_names query) (Ok tables)) → IsRefusal (judged text catalog query) error
+pub made_judged : {Maker : Type 0} (count : Maker → ℕ) (last : Maker → List ℕ) (folder : Option (List ℕ)) (text : List ℕ) (held : Held) (query : Query) (found : Found) (catalog : Catalog) (error : AnalyzeError) (result : Result Rendered Unanswered) (old new : Maker)
+    → catalog ≡ catalog_found found → unbuilt_of query ≡ None → Over held (λ bytes_of. Gathers folder (Some bytes_of) nothing (source_names query) (Ok found)) → IsRefusal (judged text catalog query) error
     → IsTold count last (regulars_of_query query) old new error → IsQuietAt count last old new error → IsUnprepared text error result
     → MadeToAnswer count (IsRoomOf count last folder text held query) result old new
-made_judged count last folder text held query tables catalog (Broken rule span) (Ok answer) old new are built somewhere why told quiet is = quiet.counted
-made_judged count last folder text held query tables catalog (StoppedByRoom span) (Ok answer) old new are built somewhere why told quiet is = absurd is
-made_judged count last folder text held query tables catalog (LackedMemory error) (Ok answer) old new are built somewhere why told quiet is = absurd is
-made_judged count last folder text held query tables catalog (Broken rule span) (Err (ReadFault file)) old new are built somewhere why told quiet is = absurd is
-made_judged count last folder text held query tables catalog (StoppedByRoom span) (Err (ReadFault file)) old new are built somewhere why told quiet is = absurd is
-made_judged count last folder text held query tables catalog (LackedMemory error) (Err (ReadFault file)) old new are built somewhere why told quiet is = absurd is
-made_judged count last folder text held query tables catalog (Broken rule span) (Err (PatternRoom line)) old new are built somewhere why told quiet is = absurd is
-made_judged count last folder text held query tables catalog (StoppedByRoom span) (Err (PatternRoom line)) old new are built somewhere why told quiet is = record {
+made_judged count last folder text held query found catalog (Broken rule span) (Ok answer) old new are built somewhere why told quiet is = quiet.counted
+made_judged count last folder text held query found catalog (StoppedByRoom span) (Ok answer) old new are built somewhere why told quiet is = absurd is
+made_judged count last folder text held query found catalog (LackedMemory error) (Ok answer) old new are built somewhere why told quiet is = absurd is
+made_judged count last folder text held query found catalog (Broken rule span) (Err (ReadFault file)) old new are built somewhere why told quiet is = absurd is
+made_judged count last folder text held query found catalog (StoppedByRoom span) (Err (ReadFault file)) old new are built somewhere why told quiet is = absurd is
+made_judged count last folder text held query found catalog (LackedMemory error) (Err (ReadFault file)) old new are built somewhere why told quiet is = absurd is
+made_judged count last folder text held query found catalog (Broken rule span) (Err (PatternRoom line)) old new are built somewhere why told quiet is = absurd is
+made_judged count last folder text held query found catalog (StoppedByRoom span) (Err (PatternRoom line)) old new are built somewhere why told quiet is = record {
   span = span;
-  tables = tables;
+  found = found;
   built = built;
   gathers = somewhere;
   refuses = subst (λ (c : Catalog). judged text c query (accepted_but span) ≡ Err (record { rule = BadRegex; span = span })) are why;
   told = told;
   is = is;
 }
-made_judged count last folder text held query tables catalog (LackedMemory error) (Err (PatternRoom line)) old new are built somewhere why told quiet is = absurd is
-made_judged count last folder text held query tables catalog error (Err (Memory lack)) old new are built somewhere why told quiet is = tt
+made_judged count last folder text held query found catalog (LackedMemory error) (Err (PatternRoom line)) old new are built somewhere why told quiet is = absurd is
+made_judged count last folder text held query found catalog error (Err (Memory lack)) old new are built somewhere why told quiet is = tt

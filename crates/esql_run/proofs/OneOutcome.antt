@@ -5,6 +5,7 @@ use Rattle.esql_lex.specs.declared.error.LexError.TheVariants as fault
 use Rattle.esql_lex.specs.declared.token.Token.{Token}
 use Rattle.esql_lex.specs.Tokens.{Tokens, LexFault}
 use Rattle.esql_ast.specs.declared.query.Query.{Query}
+use Rattle.esql_ast.specs.Uses.{source_names}
 use Rattle.esql_parse.specs.declared.error.ParseError.{ParseError}
 use Rattle.esql_parse.specs.declared.error.ParseError.TheVariants.{Unexpected, TooDeep, TooMany, Memory}
 use Rattle.esql_parse.specs.Spells.{Spells, Refuses}
@@ -24,7 +25,6 @@ use Rattle.esql_words.specs.declared.options.Options.{Options}
 use Rattle.esql_words.specs.declared.options.Request.{Request}
 use Rattle.esql_words.specs.declared.options.Request.TheVariants.{Query as AskQuery, Generate}
 use Rattle.esql_words.specs.Words.{options_of}
-use Rattle.table_files.specs.Uses.{table_names}
 use Rattle.esql_answer.specs.Queries.{IsQuery, IsNoQuery, too_long, bad_character, open_string, bad_escape, open_comment, wide_number, unexpected, too_deep, too_many, HasFault, HasRefusal, unexpected_kind, point_at}
 use Rattle.esql_run.proofs.OneTables.{TableLaws, one_over_tables, over_any}
 
@@ -129,7 +129,7 @@ one_by laws (Some span) folder format text held query outcome other is was = is 
 one_by laws None folder format text held query outcome other is was = one_over_tables laws.tables folder format held text query outcome other is was
 
 -- so has one for which no file is read
-one_unread : (laws : Laws) (unbuilt : Option Span) (folder : Option (List ℕ)) (format : Format) (text : List ℕ) (query : Query) (outcome other : Outcome) → (unbuilt ≡ None → table_names query ≡ [])
+one_unread : (laws : Laws) (unbuilt : Option Span) (folder : Option (List ℕ)) (format : Format) (text : List ℕ) (query : Query) (outcome other : Outcome) → (unbuilt ≡ None → source_names query ≡ [])
     → AnswersBy unbuilt folder format text None query outcome → AnswersBy unbuilt folder format text None query other → outcome ≡ other
 one_unread laws (Some span) folder format text query outcome other none is was = is ∙ sym was
 one_unread laws None folder format text query outcome other none (one, is) (held, was) =

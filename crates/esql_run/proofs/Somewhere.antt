@@ -2,14 +2,16 @@
 use Rattle.std.proofs.Common.{◌≡◌, ℕ, List, Option, Some, None, Result, Ok, Err, IfOk, sym, subst, ⊎_elim}
 use Rattle.esql_io.specs.Files.{Held}
 use Rattle.esql_ast.specs.declared.query.Query.{Query}
+use Rattle.esql_ast.specs.UseLaws.{UsesDiffer}
+use Rattle.esql_ast.specs.Uses.{source_names}
 use Rattle.ndjson_load.specs.Over.{Over}
 use Rattle.esql_words.specs.declared.options.Format.{Format}
-use Rattle.table_files.specs.declared.tables.FoundTable.{FoundTable}
 use Rattle.table_files.specs.declared.tables.Gathered.{Gathered}
 use Rattle.table_files.specs.Answers.{IsGathered}
-use Rattle.table_files.specs.Catalog.{Halt, unknown, Gathers}
+use Rattle.table_files.specs.Catalog.{Gathers}
+use Rattle.table_files.specs.Found.{Found, nothing}
+use Rattle.table_files.specs.Halts.{Halt}
 use Rattle.table_files.specs.Laws.{HasOneContent, IsGoneSince, SomeGathering, SomeHalt, SomeLoading}
-use Rattle.table_files.specs.Uses.{table_names}
 use Rattle.esql_run.specs.declared.rendered.Rendered.{Rendered}
 use Rattle.esql_run.specs.declared.rendered.Unanswered.{Unanswered}
 use Rattle.esql_run.specs.Bytes.{Outcome}
@@ -17,38 +19,36 @@ use Rattle.esql_run.specs.Made.{outcome_made}
 use Rattle.esql_run.specs.Rooms.{IsRoomOf}
 use Rattle.esql_run.specs.Stopped.{MadeToAnswer}
 use Rattle.esql_run.specs.Tables.{halted, IsTablesOutcome, not_found, broken, not_loaded, loaded, AnswersTables, AskedByTables}
-use Rattle.table_files.proofs.SourceNames.{names_apart}
 
--- the laws of files that do not tell what they hold
+-- the laws of uses, and of files that do not tell what they hold
 pub record ContentLaws : Type 0 where
+  pub uses_differ : (query : Query) → UsesDiffer query
   pub some_gathering : SomeGathering
   pub some_loading : SomeLoading
   pub some_halt : SomeHalt
 
--- the tables are those of what is held, or of some contents
-pub found_somewhere : (laws : ContentLaws) (folder : Option (List ℕ)) (held : Held) (query : Query) (r : Result (List FoundTable) Halt) → Gathers folder held 0 (table_names query) r
-    → Over held (λ bytes_of. Gathers folder (Some bytes_of) 0 (table_names query) r)
+-- the tables and policies are those of what is held, or of some contents
+pub found_somewhere : (laws : ContentLaws) (folder : Option (List ℕ)) (held : Held) (query : Query) (r : Result Found Halt) → Gathers folder held nothing (source_names query) r
+    → Over held (λ bytes_of. Gathers folder (Some bytes_of) nothing (source_names query) r)
 found_somewhere laws folder (Some held) query r gathers = gathers
-found_somewhere laws folder None query r gathers = laws.some_gathering folder 0 (table_names query) r gathers (names_apart query)
+found_somewhere laws folder None query r gathers = laws.some_gathering folder (source_names query) r gathers (laws.uses_differ query)
 
 -- what is answered step by step is answered over what is held, or over some contents
 pub settled : (laws : ContentLaws) (text : List ℕ) (folder : Option (List ℕ)) (format : Format) (held : Held) (query : Query) (outcome : Outcome) → IsTablesOutcome folder format held text query outcome
     → AnswersTables folder format text held query outcome
 settled laws text folder format (Some held) query outcome is = is
 settled laws text folder format None query outcome (not_found halt gathers) =
-    let (held, over) = laws.some_gathering folder 0 (table_names query) (Err halt) gathers (names_apart query) in (held, not_found halt over)
-settled laws text folder format None query outcome (broken tables first gathers shape) =
-    let (held, over) = laws.some_gathering folder 0 (table_names query) (Ok tables) gathers (names_apart query) in (held, broken tables first over shape)
-settled laws text folder format None query outcome (not_loaded tables columns halt gathers shape loads) =
+    let (held, over) = laws.some_gathering folder (source_names query) (Err halt) gathers (laws.uses_differ query) in (held, not_found halt over)
+settled laws text folder format None query outcome (broken found first gathers shape) =
+    let (held, over) = laws.some_gathering folder (source_names query) (Ok found) gathers (laws.uses_differ query) in (held, broken found first over shape)
+settled laws text folder format None query outcome (not_loaded found columns halt gathers shape loads) =
     ⊎_elim
-    (λ (one : HasOneContent folder 0 (table_names query) tables (Err halt)). (one.held, not_loaded tables columns halt one.gathers shape one.loads))
-    (λ (gone : IsGoneSince folder 0 (table_names query) (Err halt)).
-    let same : halt ≡ unknown gone.span = cc (gone.is) in
-    (gone.held, subst (λ (h : Halt). IsTablesOutcome folder format (Some gone.held) text query (halted text h)) (sym same) (not_found (unknown gone.span) gone.gathers)))
-    (laws.some_halt folder (table_names query) tables halt gathers (names_apart query) loads)
-settled laws text folder format None query outcome (loaded tables columns reads gathers shape loads) =
-    let one : HasOneContent folder 0 (table_names query) tables (Ok reads) = laws.some_loading folder (table_names query) tables reads gathers (names_apart query) loads in
-    (one.held, loaded tables columns reads one.gathers shape one.loads)
+    (λ (one : HasOneContent folder (source_names query) found (Err halt)). (one.held, not_loaded found columns halt one.gathers shape one.loads))
+    (λ (gone : IsGoneSince folder (source_names query) halt). (gone.held, not_found halt gone.gathers))
+    (laws.some_halt folder (source_names query) found halt gathers (laws.uses_differ query) loads)
+settled laws text folder format None query outcome (loaded found columns reads gathers shape loads) =
+    let one : HasOneContent folder (source_names query) found (Ok reads) = laws.some_loading folder (source_names query) found reads gathers (laws.uses_differ query) loads in
+    (one.held, loaded found columns reads one.gathers shape one.loads)
 
 -- ---- after calls that do not change what is held
 

@@ -3,6 +3,7 @@ use Rattle.std.specs.Prelude.{◌≡◌, ◌⊎◌, ℕ, List, [], Option, Some,
 use Rattle.esql_io.specs.Files.{Held}
 use Rattle.esql_types.specs.declared.places.Span.{Span}
 use Rattle.esql_ast.specs.declared.query.Query.{Query}
+use Rattle.esql_ast.specs.Uses.{source_names}
 use Rattle.esql_answer.specs.Queries.{IsQuery, IsNoQuery}
 use Rattle.answer_text.specs.declared.refusals.Refusal.{Refusal}
 use Rattle.answer_text.specs.declared.refusals.Refusal.TheVariants.{NotBuilt}
@@ -12,14 +13,13 @@ use Rattle.esql_words.specs.declared.options.Options.{Options}
 use Rattle.esql_words.specs.declared.options.Request.{Request}
 use Rattle.esql_words.specs.declared.options.Request.TheVariants.{Query as AskQuery, Generate}
 use Rattle.esql_words.specs.Words.{options_of}
-use Rattle.table_files.specs.Uses.{table_names}
 use Rattle.esql_run.specs.Bytes.{Outcome, one_line, refused}
 use Rattle.esql_run.specs.Built.{unbuilt_of}
 use Rattle.esql_run.specs.Tables.{AnswersTables, AskedByTables}
 use Rattle.esql_run.specs.Generated.{IsGenerated}
 use Rattle.esql_run.specs.declared.status.Status.TheVariants.{Usage}
 
--- the first command that is not built is refused where it stands; where each is built the query is answered over its tables
+-- the first command that is not built is refused where it stands; where each is built the query is answered over its tables and policies
 abbrev pub AnswersBy : Option Span → Option (List ℕ) → Format → List ℕ → Held → Query → Outcome → Type 0
 AnswersBy (Some span) folder format text held query outcome = outcome ≡ refused text NotBuilt span
 AnswersBy None folder format text held query outcome = AnswersTables folder format text held query outcome
@@ -50,9 +50,9 @@ AnswersOptions (Some options) held outcome = AnswersRequest options.folder optio
 abbrev pub IsOutcome : List (List ℕ) → Held → Outcome → Type 0
 IsOutcome words held outcome = AnswersOptions (options_of words) held outcome
 
--- no file is read for the query of the text, if it has one: a command is refused, or no table is named
+-- no file is read for the query of the text, if it has one: a command is refused, or no table and no policy is named
 abbrev pub ReadsNoFile : List ℕ → Type 0
-ReadsNoFile text = (query : Query) → IsQuery text query → unbuilt_of query ≡ None → table_names query ≡ []
+ReadsNoFile text = (query : Query) → IsQuery text query → unbuilt_of query ≡ None → source_names query ≡ []
 
 -- no file is read for what is asked
 abbrev pub RequestReadsNoFile : Request → Type 0

@@ -3,11 +3,10 @@ use Rattle.std.specs.Prelude.{◌≡◌, ℕ, List, Option, Some, None, Ok, Err}
 use Rattle.esql_io.specs.Files.{Held}
 use Rattle.esql_types.specs.declared.places.Span.{Span}
 use Rattle.esql_ast.specs.declared.query.Query.{Query}
+use Rattle.esql_ast.specs.Uses.{source_names}
 use Rattle.ndjson_load.specs.Over.{Over}
-use Rattle.table_files.specs.declared.tables.FoundTable.{FoundTable}
 use Rattle.table_files.specs.Catalog.{Gathers}
-use Rattle.table_files.specs.Catalogs.{catalog_of}
-use Rattle.table_files.specs.Uses.{table_names}
+use Rattle.table_files.specs.Found.{Found, nothing}
 use Rattle.row_semantics.specs.declared.rule.NameRule.TheVariants.{BadRegex}
 use Rattle.query_semantics.specs.Shapes.{shape_in}
 use Rattle.expression_analysis.specs.declared.error.AnalyzeError.TheVariants.{PatternRoom}
@@ -18,20 +17,21 @@ use Rattle.answer_text.specs.declared.refusals.Refusal.TheVariants as refusal
 use Rattle.answer_text.specs.Refusals.{refusal_line}
 use Rattle.esql_run.specs.Built.{unbuilt_of}
 use Rattle.esql_run.specs.Generated.{IsRoomOfGenerated}
+use Rattle.esql_run.specs.Tables.{catalog_found}
 use Rattle.esql_words.specs.declared.options.Options.{Options}
 use Rattle.esql_words.specs.declared.options.Request.{Request}
 use Rattle.esql_words.specs.declared.options.Request.TheVariants.{Query as AskQuery, Generate}
 use Rattle.esql_words.specs.Words.{options_of}
 
--- Each command of the query is built, and its tables are found. At a span stands a regular expression that the maker refused for its
--- size and noted; no rule is broken before it, since the query would be refused there if that expression alone were not accepted.
--- The line is the refusal of the span.
+-- Each command of the query is built, and its tables and policies are found. At a span stands a regular expression that the maker
+-- refused for its size and noted; no rule is broken before it, since the query would be refused there if that expression alone were not
+-- accepted. The line is the refusal of the span.
 pub record IsRoomOf {Maker : Type 0} (count : Maker → ℕ) (last : Maker → List ℕ) (folder : Option (List ℕ)) (text : List ℕ) (held : Held) (query : Query) (old new : Maker) (line : List ℕ) : Type 0 where
   pub span : Span
-  pub tables : List FoundTable
+  pub found : Found
   pub built : unbuilt_of query ≡ None
-  pub gathers : Over held (λ bytes_of. Gathers folder (Some bytes_of) 0 (table_names query) (Ok tables))
-  pub refuses : shape_in (record { text = text; catalog = catalog_of tables; accepts = accepted_but span }) query ≡ Err (record { rule = BadRegex; span = span })
+  pub gathers : Over held (λ bytes_of. Gathers folder (Some bytes_of) nothing (source_names query) (Ok found))
+  pub refuses : shape_in (record { text = text; catalog = catalog_found found; accepts = accepted_but span }) query ≡ Err (record { rule = BadRegex; span = span })
   pub told : IsTold count last (regulars_of_query query) old new (PatternRoom span)
   pub is : line ≡ refusal_line text refusal.PatternRoom span
 

@@ -1,16 +1,15 @@
-//! The answer over the tables that a query names.
+//! The answer over the tables and policies that a query names.
 ghost use Rattle.std.specs.Prelude.{◌≡◌, ◌≤◌, Some, None, Ok, All, IfOk, IfErr, length};
 ghost use Rattle.std.specs.Option.{option_copied};
 ghost use Rattle.esql_ast.specs.Fits.{QueryFits};
 ghost use Rattle.esql_ast.specs.Laws.{IsNumbered};
+ghost use Rattle.esql_ast.specs.Uses.{source_names};
 ghost use Rattle.ndjson_load.specs.Over.{Over};
 ghost use Rattle.ndjson_load.specs.Shapes.{IsLoadable};
 ghost use Rattle.table_files.specs.Answers.{IsGathered};
 ghost use Rattle.table_files.specs.Asked.{AskedToLoad};
 ghost use Rattle.table_files.specs.Catalog.{Gathers};
-ghost use Rattle.table_files.specs.Catalogs.{catalog_of};
-ghost use Rattle.table_files.specs.Found.{tables_of};
-ghost use Rattle.table_files.specs.Uses.{table_names};
+ghost use Rattle.table_files.specs.Found.{found_of, nothing, tables_of};
 ghost use Rattle.plan_semantics.specs.Plans.{columns_of};
 ghost use Rattle.plan_semantics.specs.WellFormed.{AreTables};
 ghost use Rattle.plan_rows.specs.Held.{tables_held};
@@ -24,7 +23,7 @@ ghost use Rattle.esql_run.specs.Made.{outcome_made};
 ghost use Rattle.esql_run.specs.Rooms.{IsRoomOf};
 ghost use Rattle.esql_run.specs.Shown.{shown};
 ghost use Rattle.esql_run.specs.Stopped.{CalledToAnswer, MadeToAnswer, IsStopped, IsUnprepared, ErrorFits, IsNoRoom};
-ghost use Rattle.esql_run.specs.Tables.{IsTablesOutcome, AnswersTables, AskedByTables, meant, refusal_of};
+ghost use Rattle.esql_run.specs.Tables.{IsTablesOutcome, AnswersTables, AskedByTables, catalog_found, meant, refusal_of};
 
 use crate::Status;
 use crate::rendered::{Rendered, Unanswered, bad_file, refuse, refuse_by};
@@ -33,7 +32,7 @@ use esql_answer::{
     AnalyzeError, Answer, Gathered, NameRule, Prepared, Stop, answer, copy_catalog, gather, load,
     prepare,
 };
-use esql_ast::Query;
+use esql_ast::{Query, uses_differ};
 use esql_io::Files;
 use esql_types::{Cell, Column, Maker, Seq, Text};
 use esql_words::{Format, Options};
@@ -42,7 +41,8 @@ use std::alloc::{AllocError, Global};
 use table_files::{some_gathering, some_halt, some_loading};
 use table_out::{csv, json, txt};
 
-/// The answer to a query of which each command is built: its tables are found, then it is judged, then their rows are read.
+/// The answer to a query of which each command is built: its tables and policies are found, then it is judged, then the rows of the
+/// tables are read.
 pub(crate) fn answer_tables<F: Files, M: Maker>(
     alloc: Global,
     options: &Options,
@@ -61,6 +61,7 @@ pub(crate) fn answer_tables<F: Files, M: Maker>(
     ensures called { CalledToAnswer F.holds F.faults F.failed (AskedByTables options.now.folder (F.holds files.old) text.now query.now) result files.old files.new }
     ensures made { MadeToAnswer M.refused (IsRoomOf M.refused M.last options.now.folder text.now (F.holds files.old) query.now) result maker.old maker.new }
 {
+    uses_differ();
     some_gathering();
     some_loading();
     some_halt();
@@ -92,7 +93,7 @@ fn stopped(alloc: Global, stop: Stop) -> Result<Rendered, Unanswered>
     }
 }
 
-/// The answer to a query whose tables were found.
+/// The answer to a query whose tables and policies were found.
 fn answer_gathered<F: Files, M: Maker>(
     alloc: Global,
     options: &Options,
@@ -108,9 +109,9 @@ fn answer_gathered<F: Files, M: Maker>(
     requires short { IsShortQuery query.now }
     requires built { unbuilt_of query.now ≡ None }
     requires gathered { IsGathered options.now.folder (F.holds files.old) query.now gathered }
-    requires somewhere { Over (F.holds files.old) (λ bytes_of. Gathers options.now.folder (Some bytes_of) 0 (table_names query.now) (Ok (tables_of query.now gathered))) }
+    requires somewhere { Over (F.holds files.old) (λ bytes_of. Gathers options.now.folder (Some bytes_of) nothing (source_names query.now) (Ok (found_of gathered))) }
     requires catalog { IsCatalog gathered.catalog }
-    requires loadable { All (λ table. All IsLoadable table.columns) (tables_of query.now gathered) }
+    requires loadable { All (λ table. All IsLoadable table.columns) (tables_of gathered) }
     ensures told { IfOk result (λ answer. IsTablesOutcome options.now.folder options.now.format (F.holds files.old) text.now query.now (outcome_made answer)) }
     ensures status { IfOk result (λ answer. IsTold answer.status) }
     ensures called { CalledToAnswer F.holds F.faults F.failed (AskedByTables options.now.folder (F.holds files.old) text.now query.now) result files.old files.new }
@@ -174,13 +175,13 @@ fn answer_prepared<F: Files>(
 ) -> Result<Rendered, Unanswered>
     requires fits { QueryFits text.now query.now }
     requires gathered { IsGathered options.now.folder (F.holds files.old) query.now gathered }
-    requires loadable { All (λ table. All IsLoadable table.columns) (tables_of query.now gathered) }
-    requires catalog { prepared.now.catalog ≡ catalog_of (tables_of query.now gathered) }
-    requires shape { shape_of text.now (catalog_of (tables_of query.now gathered)) query.now ≡ Ok (columns_of prepared.now.plan.output) }
+    requires loadable { All (λ table. All IsLoadable table.columns) (tables_of gathered) }
+    requires catalog { prepared.now.catalog ≡ catalog_found (found_of gathered) }
+    requires shape { shape_of text.now (catalog_found (found_of gathered)) query.now ≡ Ok (columns_of prepared.now.plan.output) }
     requires agrees { MeansQuery text.now query.now prepared.now }
     ensures told { IfOk result (λ answer. IsTablesOutcome options.now.folder options.now.format (F.holds files.old) text.now query.now (outcome_made answer)) }
     ensures status { IfOk result (λ answer. IsTold answer.status) }
-    ensures called { CalledToAnswer F.holds F.faults F.failed (AskedToLoad options.now.folder (F.holds files.old) (tables_of query.now gathered)) result files.old files.new }
+    ensures called { CalledToAnswer F.holds F.faults F.failed (AskedToLoad options.now.folder (F.holds files.old) (tables_of gathered)) result files.old files.new }
     ensures room { IfErr result IsNoRoom }
 {
     match load(alloc, text, query, folder_of(options), gathered, files) {

@@ -12,6 +12,14 @@ const MAPPING: &str =
 
 const ROWS: &str = "{\"a\":{\"b\":1}}\r\n\r\n{\"a\":[{\"b\":2},{\"b\":[3,null]}]}\r\n{\"a.b\":4}";
 
+/// A policy over the table.
+const POLICY: &str =
+    "{\"match\":{\"indices\":\"t\",\"match_field\":\"a.b\",\"enrich_fields\":\"a.b\"}}";
+
+/// A policy over the table, and over one that is not there.
+const WIDE_POLICY: &str =
+    "{\"match\":{\"indices\":[\"t\",\"w\"],\"match_field\":\"a.b\",\"enrich_fields\":[\"a.b\"]}}";
+
 /// The numbers of the calls that fail.
 #[derive(Clone, Copy)]
 struct Failing {
@@ -46,8 +54,8 @@ fn hold(
     })
 }
 
-/// A run over tables `t`, of which one is in the folder `d`, whose files are read in pieces of 16 bytes, over sinks that take 10
-/// bytes at once.
+/// A run over tables `t`, of which one is in the folder `d`, and the policies `p` and `q`, whose files are read in pieces of 16 bytes,
+/// over sinks that take 10 bytes at once.
 fn run_over(
     alloc: Global,
     words: &[&str],
@@ -61,6 +69,8 @@ fn run_over(
     let mut held = Seq::new(alloc);
     hold(&mut held, alloc, "t.mapping.json", MAPPING)?;
     hold(&mut held, alloc, "t.ndjson", rows)?;
+    hold(&mut held, alloc, "p.policy.json", POLICY)?;
+    hold(&mut held, alloc, "q.policy.json", WIDE_POLICY)?;
     hold(&mut held, alloc, "d/t.mapping.json", MAPPING)?;
     hold(&mut held, alloc, "d/t.ndjson", "{\"a\":{\"b\":7}}")?;
     let mut files = MemoryFiles::new(held, 16, one(alloc, failing.read)?);
@@ -88,7 +98,7 @@ struct Case {
 
 const HEAD: &str = "failed, treating result as null. Only first 20 failures recorded.";
 
-const CASES: [Case; 15] = [
+const CASES: [Case; 18] = [
     Case {
         query: "ROW a = 1 | EVAL b = a + 2",
         status: Status::Done,
@@ -172,6 +182,24 @@ const CASES: [Case; 15] = [
         status: Status::Done,
         out: "a.b\n---\n4\n",
         err: "Line 1:19: evaluation of [a.b > 3] W\nLine 1:19: single-value function encountered multi-value\n",
+    },
+    Case {
+        query: "ROW x = [3, 5] | ENRICH p ON x WITH n = a.b",
+        status: Status::Done,
+        out: "x      | n\n-------+-------\n[3, 5] | [2, 3]\n",
+        err: "",
+    },
+    Case {
+        query: "ROW x = 4 | ENRICH q",
+        status: Status::Refused,
+        out: "",
+        err: "line 1:20: unknown table [w]\n",
+    },
+    Case {
+        query: "ROW x = zz | ENRICH u",
+        status: Status::Refused,
+        out: "",
+        err: "line 1:21: unknown policy [u]\n",
     },
     Case {
         query: "FROM t | EVAL x = zz",

@@ -18,11 +18,11 @@ use std::alloc::Global;
 /// Answers the words of the command line, without the program's name: what the query means goes to `out`, and warnings
 /// and refusals go to `err`. Everything is rendered before the first write; then `out` is written whole, then `err`.
 ///
-/// The words are `[--data DIR] [--page-size N] [--format txt|csv|json] (QUERY | --generate SEED,ROWS)`. The files of the tables that
-/// the query names are read in DIR, or in the working folder, and its regular expressions are built by `maker`; where one is too large
-/// to build, the status is `PatternRoom`. The table is written in the format, `txt` where none is named; how many rows a page has
-/// changes nothing. With `--generate` a query of the program's own is answered over a table that is made from the seed, and no file
-/// is asked. Other words are `Usage`.
+/// The words are `[--data DIR] [--page-size N] [--format txt|csv|json] (QUERY | --generate SEED,ROWS)`. The files of the tables and
+/// policies that the query names are read in DIR, or in the working folder, and its regular expressions are built by `maker`; where
+/// one is too large to build, the status is `PatternRoom`. The table is written in the format, `txt` where none is named; how many
+/// rows a page has changes nothing. With `--generate` a query of the program's own is answered over a table that is made from the
+/// seed, and no file is asked. Other words are `Usage`.
 pub fn run<F: Files, M: Maker, K: Sink, E: Sink>(
     alloc: Global,
     words: &[String],

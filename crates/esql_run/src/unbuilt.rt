@@ -36,7 +36,7 @@ fn is_built_kind(kind: &CommandKind) -> bool
         CommandKind::Stats { .. } => true,
         CommandKind::Dissect { .. } => true,
         CommandKind::Grok { .. } => true,
-        CommandKind::Enrich { .. } => false,
+        CommandKind::Enrich { .. } => true,
         CommandKind::Join { .. } => false,
     }
 }

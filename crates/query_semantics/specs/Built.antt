@@ -5,7 +5,7 @@ use Rattle.esql_ast.specs.declared.query.Command.{Command}
 use Rattle.esql_ast.specs.declared.query.CommandKind.{CommandKind}
 use Rattle.esql_ast.specs.declared.query.CommandKind.TheVariants.{Filter, Eval, Keep, Drop, Rename, Sort, Limit, Expand, Stats, Dissect, Grok, Enrich, Join}
 
--- all commands but ENRICH and LOOKUP JOIN are built
+-- all commands but LOOKUP JOIN are built
 abbrev pub is_built_kind : CommandKind → Bool
 is_built_kind (Filter condition) = true
 is_built_kind (Eval fields) = true
@@ -18,7 +18,7 @@ is_built_kind (Expand column) = true
 is_built_kind (Stats fields groups) = true
 is_built_kind (Dissect input pattern separator) = true
 is_built_kind (Grok input pattern) = true
-is_built_kind (Enrich policy on fields) = false
+is_built_kind (Enrich policy on fields) = true
 is_built_kind (Join table on) = false
 
 -- each command of the query is built

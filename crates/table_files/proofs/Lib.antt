@@ -1,12 +1,24 @@
-mod Asked
-pub mod Catalogs
-mod FoundAgain
-pub mod Founds
-mod InTurn
-mod Named
-mod OneCatalog
-pub mod OneName
-mod Pushed
-mod Rowed
+pub mod Adds
+pub mod Alike
+pub mod Contents
+pub mod Documents
+pub mod FieldsGiven
+pub mod FilesRead
+pub mod Fitting
+pub mod Gone
+pub mod Grown
+pub mod Named
+pub mod NamesOnce
+pub mod Numbered
+pub mod OneCatalog
+pub mod Places
+pub mod PolicyFound
+pub mod Pushed
+pub mod Replaced
+pub mod RowsRead
+pub mod Shaped
 pub mod SomeContents
 pub mod SourceNames
+pub mod Steps
+pub mod Stopped
+pub mod Turns

@@ -1,40 +1,50 @@
--- Over files that do not tell what they hold, what is told of names that differ is told over some contents.
-use Rattle.std.specs.Prelude.{◌≡◌, ◌⊎◌, ℕ, List, map, Option, Some, None, Result, Ok, Err}
-use Rattle.esql_types.specs.declared.places.Span.{Span}
-use Rattle.esql_ast.specs.declared.query.NameAt.{NameAt}
+-- Over files that do not tell what they hold, what is told of uses that differ is told over some contents.
+use Rattle.std.specs.Prelude.{◌≡◌, ◌⊎◌, ℕ, List, Option, Some, None, Result, Ok, Err}
+use Rattle.std.specs.List.{IsDistinct}
+use Rattle.esql_ast.specs.declared.uses.SourceUse.{SourceUse}
+use Rattle.esql_ast.specs.UseLaws.{is_same_use}
 use Rattle.ndjson_load.specs.Over.{BytesOf}
 use Rattle.table_files.specs.declared.tables.FoundTable.{FoundTable}
-use Rattle.table_files.specs.Catalog.{Halt, unknown, Gathers, Rows, Loads}
-use Rattle.table_files.specs.Shapes.{AreApart}
+use Rattle.table_files.specs.Catalog.{Gathers, Rows, Loads}
+use Rattle.table_files.specs.Found.{Found, nothing}
+use Rattle.table_files.specs.Halts.{Halt}
 
--- the names, without the places where they stand
-abbrev pub plain_names : List NameAt → List (List ℕ)
-plain_names names = map (λ (name : NameAt). name.name) names
+-- no table and no policy is used twice
+abbrev pub AreDifferentUses : List SourceUse → Type 0
+AreDifferentUses uses = IsDistinct is_same_use uses
 
--- the names stand for these tables, and the tables have these rows or halt so, over one content
-pub record HasOneContent (folder : Option (List ℕ)) (entries : ℕ) (names : List NameAt) (tables : List FoundTable) (loaded : Result (List Rows) Halt) : Type 0 where
+-- the uses stand for what was found, and the tables have these rows or halt so, over one content
+pub record HasOneContent (folder : Option (List ℕ)) (uses : List SourceUse) (found : Found) (loaded : Result (List Rows) Halt) : Type 0 where
   pub held : BytesOf
-  pub gathers : Gathers folder (Some held) entries names (Ok tables)
-  pub loads : Loads folder (Some held) tables loaded
+  pub gathers : Gathers folder (Some held) nothing uses (Ok found)
+  pub loads : Loads folder (Some held) found.tables loaded
 
--- a row file is gone after its table was named: over one content the names halt there
-pub record IsGoneSince (folder : Option (List ℕ)) (entries : ℕ) (names : List NameAt) (loaded : Result (List Rows) Halt) : Type 0 where
-  pub span : Span
-  pub is : loaded ≡ Err (unknown span)
+-- a row file is gone after its table was found: over one content the uses halt so
+pub record IsGoneSince (folder : Option (List ℕ)) (uses : List SourceUse) (halt : Halt) : Type 0 where
   pub held : BytesOf
-  pub gathers : Gathers folder (Some held) entries names (Err (unknown span))
+  pub gathers : Gathers folder (Some held) nothing uses (Err halt)
 
--- what names that differ stand for
+-- over files that tell what they hold, uses stand for one thing
+abbrev pub OneGathering : Type 0
+OneGathering = (folder : Option (List ℕ)) (held : BytesOf) (found : Found) (uses : List SourceUse) (gathered other : Result Found Halt)
+    → Gathers folder (Some held) found uses gathered → Gathers folder (Some held) found uses other → gathered ≡ other
+
+-- over files that tell what they hold, tables have one list of rows each
+abbrev pub OneLoading : Type 0
+OneLoading = (folder : Option (List ℕ)) (held : BytesOf) (tables : List FoundTable) (loaded other : Result (List Rows) Halt)
+    → Loads folder (Some held) tables loaded → Loads folder (Some held) tables other → loaded ≡ other
+
+-- what uses that differ stand for
 abbrev pub SomeGathering : Type 0
-SomeGathering = (folder : Option (List ℕ)) (entries : ℕ) (names : List NameAt) (gathered : Result (List FoundTable) Halt) → Gathers folder None entries names gathered → AreApart (plain_names names)
-    → (held : BytesOf) × Gathers folder (Some held) entries names gathered
+SomeGathering = (folder : Option (List ℕ)) (uses : List SourceUse) (gathered : Result Found Halt) → Gathers folder None nothing uses gathered → AreDifferentUses uses
+    → (held : BytesOf) × Gathers folder (Some held) nothing uses gathered
 
--- what names that differ stand for, and the rows of their tables
+-- what uses that differ stand for, and the rows of the tables
 abbrev pub SomeLoading : Type 0
-SomeLoading = (folder : Option (List ℕ)) (names : List NameAt) (tables : List FoundTable) (reads : List Rows) → Gathers folder None 0 names (Ok tables) → AreApart (plain_names names) → Loads folder None tables (Ok reads)
-    → HasOneContent folder 0 names tables (Ok reads)
+SomeLoading = (folder : Option (List ℕ)) (uses : List SourceUse) (found : Found) (reads : List Rows) → Gathers folder None nothing uses (Ok found) → AreDifferentUses uses
+    → Loads folder None found.tables (Ok reads) → HasOneContent folder uses found (Ok reads)
 
--- what names that differ stand for, and where their tables halt
+-- what uses that differ stand for, and where the tables halt
 abbrev pub SomeHalt : Type 0
-SomeHalt = (folder : Option (List ℕ)) (names : List NameAt) (tables : List FoundTable) (halt : Halt) → Gathers folder None 0 names (Ok tables) → AreApart (plain_names names) → Loads folder None tables (Err halt)
-    → HasOneContent folder 0 names tables (Err halt) ⊎ IsGoneSince folder 0 names (Err halt)
+SomeHalt = (folder : Option (List ℕ)) (uses : List SourceUse) (found : Found) (halt : Halt) → Gathers folder None nothing uses (Ok found) → AreDifferentUses uses
+    → Loads folder None found.tables (Err halt) → HasOneContent folder uses found (Err halt) ⊎ IsGoneSince folder uses halt

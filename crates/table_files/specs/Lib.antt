@@ -2,10 +2,15 @@ pub mod Answers
 pub mod Asked
 pub mod Catalog
 pub mod Catalogs
+pub mod Fields
 pub mod Found
+pub mod Halts
+pub mod InTurn
 pub mod Laws
 pub mod Messages
+pub mod Numbers
+pub mod Policies
 pub mod Reading
 pub mod Shapes
 pub mod Stops
-pub mod Uses
+pub mod Tables

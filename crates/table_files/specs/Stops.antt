@@ -4,19 +4,28 @@ use Rattle.esql_types.specs.Spans.{SpanFits}
 use Rattle.esql_types.specs.declared.places.Span.{Span}
 use Rattle.esql_io.specs.Files.{Held}
 use Rattle.esql_io.specs.Calls.{NoneFailed, OneFailed}
-use Rattle.answer_text.specs.declared.refusals.Refusal.TheVariants.{UnknownTable}
+use Rattle.answer_text.specs.declared.refusals.Refusal.TheVariants.{UnknownPolicy, UnknownTable}
 use Rattle.answer_text.specs.Messages.{bad_data_line}
-use Rattle.answer_text.specs.Refusals.{refusal_line}
+use Rattle.answer_text.specs.Refusals.{named_refusal_line, refusal_line}
 use Rattle.table_files.specs.declared.stop.Stop.{Stop}
 use Rattle.table_files.specs.declared.stop.Stop.TheVariants.{Refused, BadData, ReadFault, Memory}
-use Rattle.table_files.specs.Catalog.{Halt, unknown, bad}
+use Rattle.table_files.specs.Halts.{Halt, unknown, unknown_of, unknown_policy, bad, place_of}
 
--- the line refuses a name that is no table's, which is a part of the text
+-- the line that tells where names halt
+abbrev pub halt_line : List ℕ → Halt → List ℕ
+halt_line text (unknown span) = refusal_line text UnknownTable span
+halt_line text (unknown_of name span) = named_refusal_line text UnknownTable name span
+halt_line text (unknown_policy span) = refusal_line text UnknownPolicy span
+halt_line text (bad message) = bad_data_line message
+
+-- the line refuses a name, whose place is a part of the text
 pub record Refuses (text : List ℕ) (HaltsAt : Halt → Type 0) (line : List ℕ) : Type 0 where
+  pub halt : Halt
+  pub halts : HaltsAt halt
   pub span : Span
-  pub halts : HaltsAt (unknown span)
+  pub place : place_of halt ≡ Some span
   pub fits : SpanFits text span
-  pub is : line ≡ refusal_line text UnknownTable span
+  pub is : line ≡ halt_line text halt
 
 -- the line tells of a bad file
 pub record TellsBad (HaltsAt : Halt → Type 0) (line : List ℕ) : Type 0 where

@@ -1,25 +1,22 @@
-//! The catalog that tables make.
+//! The catalog that tables and policies make.
 ghost use Rattle.std.specs.Prelude.{◌≡◌, map, IfOk};
-ghost use Rattle.table_files.specs.Catalogs.{catalog_of, columns_of, shape_of};
+ghost use Rattle.table_files.specs.Catalogs.{columns_of, shape_of};
 
 use crate::tables::FoundTable;
-use esql_plan::{Catalog, TableShape};
+use esql_plan::TableShape;
 use esql_types::{Column, Seq};
 use ndjson_load::MappedColumn;
 use std::alloc::{AllocError, Global};
 
-/// The catalog of tables that were found: each with its name and its columns, in order.
-pub(crate) fn catalog_of(alloc: Global, founds: &[FoundTable]) -> Result<Catalog, AllocError>
-    ensures { IfOk result (λ catalog. catalog ≡ catalog_of founds.now) }
+/// The shapes of tables that were found: each with its name and its columns, in order.
+pub(crate) fn shapes_of(alloc: Global, founds: &[FoundTable]) -> Result<Seq<TableShape>, AllocError>
+    ensures { IfOk result (λ shapes. shapes ≡ map shape_of founds.now) }
 {
     let mut tables = Seq::new(alloc);
     for found in founds {
         tables.push(shape_of(alloc, found)?)?;
     }
-    Ok(Catalog {
-        tables,
-        policies: Seq::new(alloc),
-    })
+    Ok(tables)
 }
 
 fn shape_of(alloc: Global, found: &FoundTable) -> Result<TableShape, AllocError>

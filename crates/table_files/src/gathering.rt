@@ -1,38 +1,42 @@
-//! Finding the tables that names stand for.
-ghost use Rattle.std.specs.Prelude.{◌≡◌, ◌≤◌, ◌+◌, [], ◌∷◌, length, map, All, IfOk, IfErr};
+//! Finding the tables and policies that a query uses.
+ghost use Rattle.std.specs.Prelude.{◌≤◌, ◌+◌, map, All, IfOk};
 ghost use Rattle.std.specs.Option.{option_copied};
-ghost use Rattle.esql_types.specs.Spans.{SpanFits};
 ghost use Rattle.esql_ast.specs.Fits.{NameFits, QueryFits};
+ghost use Rattle.esql_ast.specs.Uses.{source_names};
 ghost use Rattle.ndjson_load.specs.Shapes.{IsLoadable, NamesRise};
+ghost use Rattle.plan_semantics.specs.WellFormed.{IsPolicyTable};
 ghost use Rattle.table_files.specs.Answers.{GathersQuery};
-ghost use Rattle.table_files.specs.Asked.{AskedToFind};
-ghost use Rattle.table_files.specs.Catalog.{Gathers, StandsFor, row_file};
-ghost use Rattle.table_files.specs.Found.{name_of, tables_of};
-ghost use Rattle.table_files.specs.Reading.{FindsOver, ReadsColumns, ReadsOver};
-ghost use Rattle.table_files.specs.Shapes.{AreApart, entries_of};
-ghost use Rattle.table_files.specs.Stops.{CalledUntilStop, Says, IsNoReadFault};
-ghost use Rattle.table_files.specs.Uses.{table_names};
+ghost use Rattle.table_files.specs.Asked.{AskedForNamed, AskedForPolicy, AskedToFind};
+ghost use Rattle.table_files.specs.Catalog.{AddsNamed, AddsPolicy, Gathers};
+ghost use Rattle.table_files.specs.Found.{nothing, tables_of};
+ghost use Rattle.table_files.specs.Reading.{IsFinding};
+ghost use Rattle.table_files.specs.Shapes.{AreApart, entries_of, entries_of_policies};
+ghost use Rattle.table_files.specs.Stops.{CalledUntilStop, Says};
 
-use crate::messages::{mapping_file, mapping_message, row_file, too_large, too_many};
-use crate::names::table_names;
-use crate::stop::{bad_data, unknown_table};
-use crate::tables::{FoundTable, gathered_of};
+use crate::catalog::shapes_of;
+use crate::fields::shape_of_policy;
+use crate::findings::Findings;
+use crate::lookups::{find_table, find_tables};
+use crate::messages::{mapping_message, policy_file};
+use crate::reading::{MAX_ENTRIES, read_document, read_file};
+use crate::stop::{bad_data, unknown_policy};
+use crate::tables::sources_of;
 use crate::{Gathered, Stop};
-use esql_ast::{NameAt, Query};
+use esql_ast::{NameAt, Query, SourceUse, source_names};
 use esql_io::Files;
-use esql_types::{Seq, Span, Text};
-use ndjson_load::{MappedColumn, MappingError, ReadError, read_mapping, read_whole};
+use esql_plan::Catalog;
+use ndjson_load::MappingError;
 use std::alloc::Global;
 
-/// The most entries of a catalog, which are its tables and their columns.
-const MAX_ENTRIES: usize = 100_000;
-
-/// The tables that a query of a text names, in turn, up to the first name that is no table's.
+/// The tables and policies that a query of a text uses, in turn, up to the first name that stands for none.
 ///
 /// A table has a mapping `NAME.mapping.json` and a row file `NAME.ndjson`, in the folder where one is named, of which the
-/// mapping alone is read. The query is `Refused` at a name that lacks one of them. A mapping that is too large or bad, or has
-/// with the tables before it more than 100,000 tables and columns, is `BadData`. `ReadFault` comes only where a call on the
-/// named file failed, which is one that was asked for, and where a call failed nothing else does but `Memory`.
+/// mapping alone is read. The query is `Refused` at a name that lacks one of them. A policy has a document `NAME.policy.json`; the
+/// query is `Refused` at its name where it lacks that, or where one of its tables lacks a file. A mapping or document that is too large
+/// or bad, or has with what was found before it more than 100,000 entries, is `BadData`, as is a policy over tables that do not have
+/// its fields, each of one kind. Entries are the tables, their columns, the policies, and for each policy its tables, each once, and
+/// its fields. `ReadFault` comes only where a call on the named file failed, which is one that was asked for, and where a call failed
+/// nothing else does but `Memory`.
 pub fn gather<F: Files>(
     alloc: Global,
     text: &str,
@@ -42,139 +46,132 @@ pub fn gather<F: Files>(
 ) -> Result<Gathered, Stop>
     requires { QueryFits text.now query.now }
     ensures told { Says text.now (GathersQuery (option_copied folder.entry) (F.holds files.old) query.now) result }
-    ensures loadable { IfOk result (λ gathered. All (λ table. All IsLoadable table.columns) (tables_of query.now gathered)) }
-    ensures rise { IfOk result (λ gathered. All (λ table. NamesRise table.columns) (tables_of query.now gathered)) }
-    ensures few { IfOk result (λ gathered. entries_of (tables_of query.now gathered) ≤ MAX_ENTRIES) }
-    ensures names { IfOk result (λ gathered. map name_of (tables_of query.now gathered) ≡ table_names query.now) }
-    ensures apart { IfOk result (λ gathered. AreApart (map (λ table. table.name) (tables_of query.now gathered))) }
-    ensures called { CalledUntilStop F.holds F.faults F.failed (AskedToFind (option_copied folder.entry) (F.holds files.old) 0 (table_names query.now)) result files.old files.new }
+    ensures loadable { IfOk result (λ gathered. All (λ table. All IsLoadable table.columns) (tables_of gathered)) }
+    ensures rise { IfOk result (λ gathered. All (λ table. NamesRise table.columns) (tables_of gathered)) }
+    ensures few { IfOk result (λ gathered. entries_of_policies gathered.catalog.policies + entries_of (tables_of gathered) ≤ MAX_ENTRIES) }
+    ensures apart { IfOk result (λ gathered. AreApart (map (λ table. table.name) (tables_of gathered))) }
+    ensures policies { IfOk result (λ gathered. All (λ policy. All (IsPolicyTable gathered.catalog policy) policy.tables) gathered.catalog.policies) }
+    ensures called { CalledUntilStop F.holds F.faults F.failed (AskedToFind (option_copied folder.entry) (F.holds files.old) nothing (source_names query.now)) result files.old files.new }
 {
-    let names = table_names(alloc, query)?;
-    let founds = find_tables(alloc, text, folder, files, names.as_slice())?;
-    Ok(gathered_of(alloc, founds)?)
-}
-
-/// The tables that names stand for, in turn, up to the first that is none.
-fn find_tables<F: Files>(
-    alloc: Global,
-    text: &str,
-    folder: Option<&str>,
-    files: &mut F,
-    names: &[NameAt],
-) -> Result<Seq<FoundTable>, Stop>
-    requires { All (NameFits text.now) names.now }
-    ensures told { Says text.now (Gathers (option_copied folder.entry) (F.holds files.old) 0 names.now) result }
-    ensures loadable { IfOk result (All (λ found. All IsLoadable found.columns)) }
-    ensures rise { IfOk result (All (λ found. NamesRise found.columns)) }
-    ensures few { IfOk result (λ founds. entries_of founds ≤ MAX_ENTRIES) }
-    ensures names { IfOk result (λ founds. map name_of founds ≡ names.now) }
-    ensures called { CalledUntilStop F.holds F.faults F.failed (AskedToFind (option_copied folder.entry) (F.holds files.old) 0 names.now) result files.old files.new }
-{
-    let mut founds = Seq::new(alloc);
-    let mut entries = 0;
-    for name in names {
-        let found = find_table(alloc, text, folder, files, name, entries)?;
-        entries += 1 + found.columns.len();
-        founds.push(found)?;
-    }
-    Ok(founds)
-}
-
-/// The table that a name stands for after so many entries.
-fn find_table<F: Files>(
-    alloc: Global,
-    text: &str,
-    folder: Option<&str>,
-    files: &mut F,
-    name: &NameAt,
-    entries: usize,
-) -> Result<FoundTable, Stop>
-    requires fits { NameFits text.now name.now }
-    requires room { entries ≤ MAX_ENTRIES }
-    ensures told { Says text.now (StandsFor (option_copied folder.entry) (F.holds files.old) entries name.now) result }
-    ensures loadable { IfOk result (λ found. All IsLoadable found.columns) }
-    ensures rise { IfOk result (λ found. NamesRise found.columns) }
-    ensures few { IfOk result (λ found. entries + 1 + length found.columns ≤ MAX_ENTRIES) }
-    ensures named_so { IfOk result (λ found. name_of found ≡ name.now) }
-    ensures called { CalledUntilStop F.holds F.faults F.failed (AskedToFind (option_copied folder.entry) (F.holds files.old) entries (name.now ∷ [])) result files.old files.new }
-{
-    let file = mapping_file(alloc, folder, name.name.as_str())?;
-    let bytes = read_file(alloc, text, files, file.as_str(), name.span)?;
-    find_rows(alloc, text, folder, files, name)?;
-    let columns = read_columns(alloc, bytes.as_slice(), file.as_str(), entries)?;
-    Ok(FoundTable {
-        name: name.name.copy()?,
-        span: name.span,
-        columns,
+    let uses = source_names(alloc, query)?;
+    let findings = find_uses(alloc, text, folder, files, uses.as_slice())?;
+    let (founds, policies) = findings.into_parts();
+    let tables = shapes_of(alloc, founds.as_slice())?;
+    let sources = sources_of(alloc, founds)?;
+    Ok(Gathered {
+        catalog: Catalog { tables, policies },
+        sources,
     })
 }
 
-/// Reads a file whole that the name at a span needs.
-fn read_file<F: Files>(
+/// What uses stand for, in turn, up to the first that halts.
+fn find_uses<F: Files>(
     alloc: Global,
     text: &str,
+    folder: Option<&str>,
     files: &mut F,
-    file: &str,
-    span: Span,
-) -> Result<Seq<u8>, Stop>
-    requires { SpanFits text.now span }
-    ensures told { Says text.now (ReadsOver (F.holds files.old) file.now span) result }
-    ensures called { CalledUntilStop F.holds F.faults F.failed (λ asked. asked ≡ file.now) result files.old files.new }
+    uses: &[SourceUse],
+) -> Result<Findings, Stop>
+    requires { All (λ use_. NameFits text.now use_.name) uses.now }
+    ensures told { Says text.now (Gathers (option_copied folder.entry) (F.holds files.old) nothing uses.now) result }
+    ensures finding { IfOk result IsFinding }
+    ensures called { CalledUntilStop F.holds F.faults F.failed (AskedToFind (option_copied folder.entry) (F.holds files.old) nothing uses.now) result files.old files.new }
 {
-    match read_whole(alloc, files, file) {
-        Ok(Some(bytes)) => Ok(bytes),
-        Ok(None) => Err(unknown_table(alloc, text, span)?),
-        Err(ReadError::ReadFault) => Err(Stop::ReadFault {
-            file: Text::from_str(alloc, file)?,
-        }),
-        Err(ReadError::TooLarge) => Err(bad_data(alloc, too_large(alloc, file)?)?),
-        Err(ReadError::Memory(error)) => Err(Stop::Memory(error)),
+    let mut findings = Findings::new(alloc);
+    for used in uses {
+        findings = find_named(
+            alloc,
+            text,
+            folder,
+            files,
+            used.policy,
+            &used.name,
+            findings,
+        )?;
+    }
+    Ok(findings)
+}
+
+/// What was found with the table or the policy of a name.
+fn find_named<F: Files>(
+    alloc: Global,
+    text: &str,
+    folder: Option<&str>,
+    files: &mut F,
+    policy: bool,
+    name: &NameAt,
+    findings: Findings,
+) -> Result<Findings, Stop>
+    requires fits { NameFits text.now name.now }
+    requires finding { IsFinding findings }
+    ensures told { Says text.now (AddsNamed (option_copied folder.entry) (F.holds files.old) policy findings name.now) result }
+    ensures finding { IfOk result IsFinding }
+    ensures called { CalledUntilStop F.holds F.faults F.failed (AskedForNamed (option_copied folder.entry) (F.holds files.old) policy findings name.now) result files.old files.new }
+{
+    if policy {
+        find_policy(alloc, text, folder, files, name, findings)
+    } else {
+        find_table(
+            alloc,
+            text,
+            folder,
+            files,
+            false,
+            name.name.as_str(),
+            name.span,
+            0,
+            findings,
+        )
     }
 }
 
-/// Finds the row file of a name.
-fn find_rows<F: Files>(
+/// What was found with the policy of a name: its document, then its tables, then its fields.
+fn find_policy<F: Files>(
     alloc: Global,
     text: &str,
     folder: Option<&str>,
     files: &mut F,
     name: &NameAt,
-) -> Result<(), Stop>
-    requires { NameFits text.now name.now }
-    ensures told { Says text.now (FindsOver (F.holds files.old) (row_file (option_copied folder.entry) name.now.name) name.now.span) result }
-    ensures called { CalledUntilStop F.holds F.faults F.failed (λ asked. asked ≡ row_file (option_copied folder.entry) name.now.name) result files.old files.new }
+    findings: Findings,
+) -> Result<Findings, Stop>
+    requires fits { NameFits text.now name.now }
+    requires finding { IsFinding findings }
+    ensures told { Says text.now (AddsPolicy (option_copied folder.entry) (F.holds files.old) findings name.now) result }
+    ensures finding { IfOk result IsFinding }
+    ensures called { CalledUntilStop F.holds F.faults F.failed (AskedForPolicy (option_copied folder.entry) (F.holds files.old) findings name.now) result files.old files.new }
 {
-    let file = row_file(alloc, folder, name.name.as_str())?;
-    match files.open(file.as_str()) {
-        Ok(true) => Ok(()),
-        Ok(false) => Err(unknown_table(alloc, text, name.span)?),
-        Err(_) => Err(Stop::ReadFault { file }),
-    }
-}
-
-/// The columns of a mapping that was read, after so many entries.
-fn read_columns(
-    alloc: Global,
-    bytes: &[u8],
-    file: &str,
-    entries: usize,
-) -> Result<Seq<MappedColumn>, Stop>
-    requires { entries ≤ MAX_ENTRIES }
-    ensures told { Says [] (ReadsColumns bytes.now file.now entries) result }
-    ensures loadable { IfOk result (All IsLoadable) }
-    ensures rise { IfOk result NamesRise }
-    ensures few { IfOk result (λ columns. entries + 1 + length columns ≤ MAX_ENTRIES) }
-    ensures read { IfErr result IsNoReadFault }
-{
-    let columns = match read_mapping(alloc, bytes) {
-        Ok(columns) => columns,
-        Err(MappingError::Bad { cause }) => {
-            return Err(bad_data(alloc, mapping_message(alloc, file, &cause)?)?);
-        }
-        Err(MappingError::Memory(error)) => return Err(Stop::Memory(error)),
+    let file = policy_file(alloc, folder, name.name.as_str())?;
+    let Some(bytes) = read_file(alloc, files, file.as_str())? else {
+        return Err(unknown_policy(alloc, text, name.span)?);
     };
-    if columns.len() < MAX_ENTRIES - entries {
-        return Ok(columns);
+    let (policy, tables) = read_document(
+        alloc,
+        bytes.as_slice(),
+        file.as_str(),
+        findings.entries(),
+    )?;
+    let beside = 1 + tables.len() + policy.fields.len();
+    let findings = find_tables(
+        alloc,
+        text,
+        folder,
+        files,
+        tables.as_slice(),
+        name.span,
+        beside,
+        findings,
+    )?;
+    match shape_of_policy(
+        alloc,
+        &findings,
+        name.name.as_str(),
+        tables.as_slice(),
+        &policy,
+    ) {
+        Ok(shape) => Ok(findings.with_policy(shape)?),
+        Err(MappingError::Bad { cause }) => {
+            Err(bad_data(alloc, mapping_message(alloc, file.as_str(), &cause)?)?)
+        }
+        Err(MappingError::Memory(error)) => Err(Stop::Memory(error)),
     }
-    Err(bad_data(alloc, too_many(alloc, file)?)?)
 }

@@ -1,12 +1,16 @@
-//! The tables of a query: `gather` finds them by their mappings, `load` reads their rows.
+//! The tables and policies of a query: `gather` finds them by their mappings and documents, `load` reads the rows.
 #![tactic(auto)]
 
 mod catalog;
+mod fields;
+mod findings;
 mod gathering;
 mod laws;
 mod loading;
+mod lookups;
 mod messages;
-mod names;
+mod once;
+mod reading;
 mod stop;
 mod tables;
 #[cfg(test)]

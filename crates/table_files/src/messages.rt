@@ -2,7 +2,7 @@
 ghost use Rattle.std.specs.Prelude.{◌≡◌, ◌++◌, IfOk, OnOk};
 ghost use Rattle.std.specs.Option.{option_copied};
 ghost use Rattle.std.specs.String.{string_bytes};
-ghost use Rattle.table_files.specs.Catalog.{table_file, folder_text, mapping_file, row_file};
+ghost use Rattle.table_files.specs.Catalog.{table_file, folder_text, mapping_file, policy_file, row_file};
 ghost use Rattle.table_files.specs.Messages.{too_large, too_many, mapping_message, mapping_text, row_message, row_text, of_file, of_path, of_field};
 
 use esql_types::Text;
@@ -27,7 +27,18 @@ pub(crate) fn row_file(alloc: Global, folder: Option<&str>, name: &str) -> Resul
     table_file(alloc, folder, name, ".ndjson")
 }
 
-/// The name of a file of a table: the folder, if one is named, the name of the table, and what the file is.
+/// The name of the file with the document of a policy.
+pub(crate) fn policy_file(
+    alloc: Global,
+    folder: Option<&str>,
+    name: &str,
+) -> Result<Text, AllocError>
+    ensures { IfOk result (λ file. file ≡ policy_file (option_copied folder.entry) name.now) }
+{
+    table_file(alloc, folder, name, ".policy.json")
+}
+
+/// The name of a file of a table or a policy: the folder, if one is named, the name, and what the file is.
 fn table_file(
     alloc: Global,
     folder: Option<&str>,
@@ -58,7 +69,7 @@ pub(crate) fn too_large(alloc: Global, file: &str) -> Result<Text, AllocError>
     of_file(alloc, file, "larger than 268435456 bytes")
 }
 
-/// The message on a mapping with which the tables of a query have more entries than are read.
+/// The message on a mapping or policy with which a query has more tables, columns and fields than are read.
 pub(crate) fn too_many(alloc: Global, file: &str) -> Result<Text, AllocError>
     ensures { IfOk result (λ text. text ≡ too_many file.now) }
 {
@@ -73,7 +84,7 @@ fn of_file(alloc: Global, file: &str, text: &str) -> Result<Text, AllocError>
     Ok(Text::from_string(out))
 }
 
-/// The message on a bad mapping.
+/// The message on a bad mapping or policy.
 pub(crate) fn mapping_message(
     alloc: Global,
     file: &str,

@@ -1,11 +1,11 @@
 ghost use Rattle.std.specs.Prelude.{◌≡◌, IfOk};
 ghost use Rattle.esql_types.specs.Spans.{SpanFits};
 ghost use Rattle.answer_text.specs.Messages.{bad_data_line};
-ghost use Rattle.answer_text.specs.Refusals.{refusal_line};
-ghost use Rattle.answer_text.specs.declared.refusals.Refusal.TheVariants.{UnknownTable};
+ghost use Rattle.table_files.specs.Halts.{absent, unknown_policy};
+ghost use Rattle.table_files.specs.Stops.{halt_line};
 ghost use Rattle.table_files.specs.declared.stop.Stop.TheVariants.{BadData, Memory, Refused};
 
-use answer_text::{Refusal, bad_data_line, refusal_line};
+use answer_text::{Refusal, bad_data_line, named_refusal_line, refusal_line};
 use esql_types::{Span, Text};
 use std::alloc::{AllocError, Global};
 
@@ -29,13 +29,32 @@ impl From<AllocError> for Stop {
     }
 }
 
-/// The stop at a name of the query that is no table's.
-pub(crate) fn unknown_table(alloc: Global, text: &str, span: Span) -> Result<Stop, AllocError>
+/// The stop at a name that is no table's, which stands in the query or, for a policy, at the policy's name.
+pub(crate) fn unknown_table(
+    alloc: Global,
+    text: &str,
+    policy: bool,
+    name: &str,
+    span: Span,
+) -> Result<Stop, AllocError>
     requires { SpanFits text.now span }
-    ensures { IfOk result (λ stop. stop ≡ Refused (refusal_line text.now UnknownTable span)) }
+    ensures { IfOk result (λ stop. stop ≡ Refused (halt_line text.now (absent policy (record { name = name.now; span = span })))) }
+{
+    let line = if policy {
+        named_refusal_line(alloc, text, Refusal::UnknownTable, name, span)?
+    } else {
+        refusal_line(alloc, text, Refusal::UnknownTable, span)?
+    };
+    Ok(Stop::Refused { line })
+}
+
+/// The stop at a name of the query that is no policy's.
+pub(crate) fn unknown_policy(alloc: Global, text: &str, span: Span) -> Result<Stop, AllocError>
+    requires { SpanFits text.now span }
+    ensures { IfOk result (λ stop. stop ≡ Refused (halt_line text.now (unknown_policy span))) }
 {
     Ok(Stop::Refused {
-        line: refusal_line(alloc, text, Refusal::UnknownTable, span)?,
+        line: refusal_line(alloc, text, Refusal::UnknownPolicy, span)?,
     })
 }
 

@@ -2,9 +2,9 @@ ghost use Rattle.std.specs.Prelude.{IfOk, IfSome};
 ghost use Rattle.esql_ast.specs.Fits.{QueryFits};
 
 use super::*;
-use esql_ast::{NameAt, Query, SourceCommand};
+use esql_ast::{Command, CommandKind, NameAt, Query, SourceCommand};
 use esql_io::{HeldFile, MemoryFiles};
-use esql_plan::Catalog;
+use esql_plan::{Catalog, PolicyShape};
 use esql_types::{NodeId, Seq, Span, Text};
 use ndjson_load::Table;
 use std::alloc::{AllocError, Global};
@@ -82,6 +82,44 @@ const CASES: &[(&str, &str, &str)] = &[
     ),
 ];
 
+const FULL: &str = "FROM t | ENRICH p";
+
+const POLICY: &str =
+    "{\"match\":{\"indices\":[\"t\",\"u\",\"t\"],\"match_field\":\"k\",\"enrich_fields\":[\"n\",\"a.b\"]}}";
+
+const OTHER: &str =
+    "{\"mappings\":{\"properties\":{\"k\":{\"type\":\"keyword\"},\"n\":{\"type\":\"integer\"}}}}";
+
+// The document of the policy, the mapping and the rows of its other table, and what is answered of the query
+// `FROM t | ENRICH p`.
+const POLICY_CASES: &[(&str, &str, &str, &str)] = &[
+    (
+        POLICY,
+        OTHER,
+        "{}\n",
+        "t: a.b ku: k n, p by k: n a.b of 0 1; 2 rows; 1 rows",
+    ),
+    (ABSENT, OTHER, "", "line 1:17: unknown policy [p]\n"),
+    (POLICY, ABSENT, "", "line 1:17: unknown table [u]\n"),
+    (POLICY, OTHER, ABSENT, "line 1:17: unknown table [u]\n"),
+    (
+        "{\"match\":",
+        ABSENT,
+        "",
+        "p.policy.json: not readable JSON\n",
+    ),
+    ("{}", ABSENT, "", "p.policy.json: not a match policy\n"),
+    (POLICY, "{}", "", "u.mapping.json: no mappings.properties\n"),
+    (POLICY, MAPPING, "", "p.policy.json: no field [n]\n"),
+    (
+        POLICY,
+        "{\"mappings\":{\"properties\":{\"k\":{\"type\":\"long\"}}}}",
+        "",
+        "p.policy.json: [k] has two kinds\n",
+    ),
+    (POLICY, OTHER, "[]", "u.ndjson:1: not an object\n"),
+];
+
 fn hold(
     alloc: Global,
     held: &mut Seq<HeldFile>,
@@ -115,6 +153,24 @@ fn files(
     Ok(MemoryFiles::new(held, 16, numbers))
 }
 
+// The files of the table of the query and of the policy and its other table.
+fn policy_files(
+    alloc: Global,
+    policy: &str,
+    mapping: &str,
+    rows: &str,
+) -> Result<MemoryFiles, AllocError> {
+    let mut held = Seq::new(alloc);
+    hold(alloc, &mut held, "t.mapping.json", MAPPING)?;
+    hold(alloc, &mut held, "t.ndjson", ROWS)?;
+    hold(alloc, &mut held, "p.policy.json", policy)?;
+    hold(alloc, &mut held, "u.mapping.json", mapping)?;
+    hold(alloc, &mut held, "u.ndjson", rows)?;
+    let mut numbers = Seq::new(alloc);
+    numbers.push(NEVER)?;
+    Ok(MemoryFiles::new(held, 16, numbers))
+}
+
 // The query `FROM t`, where the text is as long as that and has no other characters than those of ASCII.
 fn from_table(alloc: Global, text: &str) -> Result<Option<Query>, AllocError>
     ensures { IfOk result (λ query. IfSome query (QueryFits text.now)) }
@@ -138,6 +194,43 @@ fn from_table(alloc: Global, text: &str) -> Result<Option<Query>, AllocError>
     }))
 }
 
+// The query `FROM t | ENRICH p`, where the text is as long as that and has no other characters than those of ASCII.
+fn with_policy(alloc: Global, text: &str) -> Result<Option<Query>, AllocError>
+    ensures { IfOk result (λ query. IfSome query (QueryFits text.now)) }
+{
+    if !text.is_ascii() || text.len() != 17 {
+        return Ok(None);
+    }
+    let mut tables = Seq::new(alloc);
+    tables.push(NameAt {
+        name: Text::from_str(alloc, "t")?,
+        span: Span { from: 5, to: 6 },
+    })?;
+    let policy = NameAt {
+        name: Text::from_str(alloc, "p")?,
+        span: Span { from: 16, to: 17 },
+    };
+    let mut commands = Seq::new(alloc);
+    commands.push(Command {
+        node: NodeId(1),
+        span: Span { from: 9, to: 17 },
+        kind: CommandKind::Enrich {
+            policy,
+            on: None,
+            fields: None,
+        },
+    })?;
+    Ok(Some(Query {
+        source: SourceCommand::Tables {
+            node: NodeId(0),
+            span: Span { from: 0, to: 6 },
+            tables,
+        },
+        commands,
+        nodes: 2,
+    }))
+}
+
 fn push_stop(out: &mut String, stop: &Stop) -> Result<(), AllocError> {
     match stop {
         Stop::Refused { line } => out.push_str(line.as_str()),
@@ -153,6 +246,22 @@ fn push_catalog(out: &mut String, catalog: &Catalog) -> Result<(), AllocError> {
         for column in table.columns.as_slice() {
             write!(out, " {}", column.name.as_str())?;
         }
+    }
+    for policy in catalog.policies.as_slice() {
+        push_policy(out, policy)?;
+    }
+    Ok(())
+}
+
+fn push_policy(out: &mut String, policy: &PolicyShape) -> Result<(), AllocError> {
+    let matched = policy.match_field.name.as_str();
+    write!(out, ", {} by {}:", policy.name.as_str(), matched)?;
+    for field in policy.fields.as_slice() {
+        write!(out, " {}", field.name.as_str())?;
+    }
+    out.push_str(" of")?;
+    for number in policy.tables.as_slice() {
+        write!(out, " {number}")?;
     }
     Ok(())
 }
@@ -194,6 +303,18 @@ fn names_stand_for_tables(rt: HostRuntime) -> Result<(), Fail> {
         let mut files = files(rt.alloc(), "", mapping, rows, NEVER)?;
         if let Some(query) = from_table(rt.alloc(), "FROM t")? {
             let answer = answer(rt.alloc(), "FROM t", &query, None, &mut files)?;
+            assert_eq!(rt; answer.as_str(), *wanted);
+        }
+    }
+    Ok(())
+}
+
+#[test]
+fn names_stand_for_policies(rt: HostRuntime) -> Result<(), Fail> {
+    for (policy, mapping, rows, wanted) in POLICY_CASES {
+        let mut files = policy_files(rt.alloc(), policy, mapping, rows)?;
+        if let Some(query) = with_policy(rt.alloc(), FULL)? {
+            let answer = answer(rt.alloc(), FULL, &query, None, &mut files)?;
             assert_eq!(rt; answer.as_str(), *wanted);
         }
     }

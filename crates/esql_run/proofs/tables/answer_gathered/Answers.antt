@@ -6,7 +6,7 @@ use Rattle.query_semantics.specs.Catalogs.{IsCatalog}
 use Rattle.query_semantics.specs.Shapes.{shape_of}
 use Rattle.esql_answer.specs.Prepared.{PreparedSeen}
 use Rattle.table_files.specs.Asked.{AskedToLoad}
-use Rattle.table_files.specs.Found.{tables_of}
+use Rattle.table_files.specs.Found.{found_of}
 use Rattle.esql_run.specs.Rooms.{IsRoomOf}
 use Rattle.esql_run.specs.Tables.{AskedByTables}
 use Rattle.esql_run.proofs.Judged.{error_fits, broken_told, called_judged, made_judged}
@@ -30,9 +30,9 @@ answer_prepared-requires-clause-shape g c =
 
 pub returns-in-Ok-clause-called : goal.returns-in-Ok-clause-called
 returns-in-Ok-clause-called g c =
-    called_after (AskedToLoad c.args.options.now.folder (g.F.Files.holds c.args.files.now) (tables_of c.args.query.now c.args.gathered))
+    called_after (AskedToLoad c.args.options.now.folder (g.F.Files.holds c.args.files.now) (found_of c.args.gathered).tables)
     (AskedByTables c.args.options.now.folder (g.F.Files.holds c.args.files.now) c.args.text.now c.args.query.now) c.answer_prepared.result _ _ _ (none_yet _ _ _ _)
-    (asks_to_load c.args.options.now.folder (g.F.Files.holds c.args.files.now) c.args.text.now c.args.query.now (tables_of c.args.query.now c.args.gathered) (columns_of c.in-Ok.prepared.plan.output) c.requires.gathered.gathers
+    (asks_to_load c.args.options.now.folder (g.F.Files.holds c.args.files.now) c.args.text.now c.args.query.now (found_of c.args.gathered) (columns_of c.in-Ok.prepared.plan.output) c.requires.gathered.gathers
     (subst (λ (catalog : Catalog). shape_of c.args.text.now catalog c.args.query.now ≡ Ok (columns_of c.in-Ok.prepared.plan.output)) (c.in_ok-catalog.ensures ∙ c.requires.gathered.catalog) c.in-Ok.ensures.shape))
     c.answer_prepared.ensures.called
 
@@ -46,7 +46,7 @@ unprepared-requires g c = error_fits c.args.text.now c.in_ok-catalog.catalog c.a
 
 pub returns-in-Err-clause-told : goal.returns-in-Err-clause-told
 returns-in-Err-clause-told g c =
-    broken_told c.args.text.now c.args.options.now.folder c.args.options.now.format (g.F.Files.holds c.args.files.now) c.args.query.now (tables_of c.args.query.now c.args.gathered) c.in_ok-catalog.catalog c.in-Err.error c.unprepared.result
+    broken_told c.args.text.now c.args.options.now.folder c.args.options.now.format (g.F.Files.holds c.args.files.now) c.args.query.now (found_of c.args.gathered) c.in_ok-catalog.catalog c.in-Err.error c.unprepared.result
     (c.in_ok-catalog.ensures ∙ c.requires.gathered.catalog) c.requires.gathered.gathers c.in-Err.ensures.refusal c.unprepared.ensures.unprepared
 
 pub returns-in-Err-clause-called : goal.returns-in-Err-clause-called
@@ -55,5 +55,5 @@ returns-in-Err-clause-called g c =
 
 pub returns-in-Err-clause-made : goal.returns-in-Err-clause-made
 returns-in-Err-clause-made g c =
-    made_judged g.M.Maker.refused g.M.Maker.last c.args.options.now.folder c.args.text.now (g.F.Files.holds c.args.files.now) c.args.query.now (tables_of c.args.query.now c.args.gathered) c.in_ok-catalog.catalog c.in-Err.error c.unprepared.result _ _
+    made_judged g.M.Maker.refused g.M.Maker.last c.args.options.now.folder c.args.text.now (g.F.Files.holds c.args.files.now) c.args.query.now (found_of c.args.gathered) c.in_ok-catalog.catalog c.in-Err.error c.unprepared.result _ _
     (c.in_ok-catalog.ensures ∙ c.requires.gathered.catalog) c.requires.built c.requires.somewhere c.in-Err.ensures.refusal c.in-Err.ensures.room c.in-Err.ensures.quiet c.unprepared.ensures.unprepared

@@ -14,7 +14,7 @@ load-requires-clause-gathered g c =
 
 pub show-requires-clause-tables : goal.show-requires-clause-tables
 show-requires-clause-tables g c =
-    are_tables c.args.prepared.now.catalog (tables_of c.args.query.now c.args.gathered) c.in-Ok.loaded.tables c.as_slice-tables.result.now c.requires.catalog c.as_slice-tables.ensures c.requires.loadable c.in-Ok.ensures.shaped
+    are_tables c.args.prepared.now.catalog (tables_of c.args.gathered) c.args.gathered.catalog.policies c.in-Ok.loaded.tables c.as_slice-tables.result.now c.requires.catalog c.as_slice-tables.ensures c.requires.loadable c.in-Ok.ensures.shaped
 
 pub returns-in_ok-show-in-Ok-clause-told : goal.returns-in_ok-show-in-Ok-clause-told
 returns-in_ok-show-in-Ok-clause-told g c =
@@ -28,9 +28,9 @@ returns-in-Err-clause-told g c =
 
 pub returns-in-Err-clause-called : goal.returns-in-Err-clause-called
 returns-in-Err-clause-called g c =
-    called_stop (AskedToLoad _ (g.F.Files.holds c.args.files.now) (tables_of c.args.query.now c.args.gathered))
-    (AskedToLoad c.args.options.now.folder (g.F.Files.holds c.args.files.now) (tables_of c.args.query.now c.args.gathered)) c.in-Err.stop c.stopped.result _ _ _ (none_yet _ _ _ _)
-    (asked_in _ c.args.options.now.folder (g.F.Files.holds c.args.files.now) (tables_of c.args.query.now c.args.gathered) c.folder_of.ensures) c.stopped.ensures.stopped c.in-Err.ensures.called
+    called_stop (AskedToLoad _ (g.F.Files.holds c.args.files.now) (tables_of c.args.gathered))
+    (AskedToLoad c.args.options.now.folder (g.F.Files.holds c.args.files.now) (tables_of c.args.gathered)) c.in-Err.stop c.stopped.result _ _ _ (none_yet _ _ _ _)
+    (asked_in _ c.args.options.now.folder (g.F.Files.holds c.args.files.now) (tables_of c.args.gathered) c.folder_of.ensures) c.stopped.ensures.stopped c.in-Err.ensures.called
 
 pub returns-in-Err-clause-room : goal.returns-in-Err-clause-room
 returns-in-Err-clause-room g c = no_room_stop c.in-Err.stop c.stopped.result c.stopped.ensures.stopped

@@ -1,4 +1,4 @@
-use Rattle.table_files.proofs.SomeContents.{some_gathering}
+use Rattle.table_files.proofs.Contents.{some_gathering}
 use Rattle.table_files.proofs.laws.some_gathering.Goals as goal
 
 pub returns : goal.returns
