@@ -1,0 +1,10 @@
+pub mod Keys
+pub mod Places
+pub mod Rows
+pub mod Steps
+pub mod Runs
+pub mod Joined
+pub mod Seen
+pub mod Found
+pub mod Counts
+pub mod Held

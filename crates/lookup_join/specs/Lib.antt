@@ -1,0 +1,4 @@
+pub mod Placed
+pub mod Joins
+pub mod Laws
+pub mod Extended
