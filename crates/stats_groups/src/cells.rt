@@ -9,6 +9,7 @@ use std::alloc::{AllocError, Global};
 ///
 /// # Errors
 /// Want of memory; some of the nulls may be there then.
+#[inline(always)]
 pub fn put_cell(
     alloc: Global,
     row: &mut Seq<Cell>,
@@ -45,6 +46,7 @@ pub(crate) fn put_cells(
 }
 
 /// Puts a cell at the first of columns, if there is one.
+#[inline(always)]
 pub(crate) fn put_first(
     alloc: Global,
     row: &mut Seq<Cell>,
@@ -60,6 +62,7 @@ pub(crate) fn put_first(
 }
 
 /// The columns behind the first ones.
+#[inline(always)]
 pub(crate) fn behind(columns: &[ColId], count: usize) -> &[ColId]
     ensures { result.now ≡ drop count columns.now }
 {

@@ -30,6 +30,7 @@ impl Model for GroupStates {
 
 impl GroupStates {
     /// The aggregates over no rows.
+    #[inline(always)]
     pub(crate) fn new(alloc: Global, aggregates: &[Aggregate]) -> Result<GroupStates, AllocError>
         ensures { IfOk result (λ states. states ≡ running_before aggregates.now) }
     {
@@ -44,6 +45,7 @@ impl GroupStates {
     }
 
     /// Takes one more row, by its cells of the aggregates' inputs.
+    #[inline(always)]
     pub(crate) fn add(&mut self, aggregates: &[Aggregate], row: &[Cell]) -> Result<(), AllocError>
         ensures { OnOk result (self.new ≡ running_after 0 self.old (inputs_of aggregates.now row.now)) }
     {
@@ -62,6 +64,7 @@ impl GroupStates {
     }
 
     /// Puts the aggregates' cells at columns of a row, as far as there are columns, and adds their failures to others.
+    #[inline(always)]
     pub(crate) fn put_cells(
         self,
         alloc: Global,
@@ -84,6 +87,7 @@ impl GroupStates {
 }
 
 /// The values of a row for the aggregate at a place.
+#[inline(always)]
 fn input_at<'a>(aggregates: &[Aggregate], place: usize, row: &'a [Cell]) -> &'a [Value]
     ensures { result.now ≡ slice_index_or (inputs_of aggregates.now row.now) place [] }
 {
@@ -94,6 +98,7 @@ fn input_at<'a>(aggregates: &[Aggregate], place: usize, row: &'a [Cell]) -> &'a 
 }
 
 /// The values of a row at a column, none where there is no column.
+#[inline(always)]
 fn input_values(input: Option<ColId>, row: &[Cell]) -> &[Value]
     ensures { result.now ≡ input_cell (numbered row.now) input }
 {

@@ -6,6 +6,7 @@ use esql_types::{Cell, Value};
 use std::hash::{Hash, Hasher};
 
 /// Hashes a value.
+#[inline(always)]
 pub(crate) fn hash_value<H: Hasher>(value: &Value, state: &mut H)
     ensures { state.new ≡ fold H.write state.old (value_hashed value.now) }
 {
@@ -18,6 +19,7 @@ pub(crate) fn hash_value<H: Hasher>(value: &Value, state: &mut H)
 }
 
 /// Hashes the values of a key's cell, which are one or none.
+#[inline(always)]
 pub(crate) fn hash_cell<H: Hasher>(values: &[Value], state: &mut H)
     ensures { state.new ≡ fold H.write state.old (cell_hashed values.now) }
 {

@@ -130,6 +130,7 @@ pub(crate) fn rows_of_groups(
 }
 
 /// The row of a group, with room for so many cells.
+#[inline(always)]
 fn row_of_group(
     alloc: Global,
     columns: &[ColId],

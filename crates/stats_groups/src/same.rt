@@ -5,6 +5,7 @@ ghost use Rattle.plan_semantics.specs.Groups.{same_key, same_list, same_value};
 use esql_types::{Cell, Value, compare_values};
 
 /// Whether values are the same, one by one.
+#[inline(always)]
 pub(crate) fn same_values(these: &[Value], those: &[Value]) -> bool
     ensures { result ≡ same_list same_value these.now those.now }
 {

@@ -47,6 +47,7 @@ impl State {
     }
 
     /// Takes one more row, by the values of its input.
+    #[inline(always)]
     pub(crate) fn add(&mut self, values: &[Value]) -> Result<(), AllocError>
         ensures { OnOk result (self.new ≡ state_after self.old values.now) }
     {
@@ -65,6 +66,7 @@ impl State {
 
 impl Running {
     /// The cell of the aggregate; its failures are added to others.
+    #[inline(always)]
     pub(crate) fn finish(
         self,
         alloc: Global,
@@ -87,6 +89,7 @@ impl Running {
 }
 
 /// Takes the least of the least value so far and some values.
+#[inline(always)]
 fn add_least(best: &mut Option<Value>, values: &[Value]) -> Result<(), AllocError>
     ensures { OnOk result (best.new ≡ fold (best_after is_lt) best.old values.now) }
 {
@@ -99,6 +102,7 @@ fn add_least(best: &mut Option<Value>, values: &[Value]) -> Result<(), AllocErro
 }
 
 /// Takes the greatest of the greatest value so far and some values.
+#[inline(always)]
 fn add_greatest(best: &mut Option<Value>, values: &[Value]) -> Result<(), AllocError>
     ensures { OnOk result (best.new ≡ fold (best_after is_gt) best.old values.now) }
 {
@@ -111,6 +115,7 @@ fn add_greatest(best: &mut Option<Value>, values: &[Value]) -> Result<(), AllocE
 }
 
 /// Whether a value is less than the least one so far, or the first.
+#[inline(always)]
 fn is_less(value: &Value, best: &Option<Value>) -> bool
     ensures { result ≡ replaces is_lt best.now value.now }
 {
@@ -121,6 +126,7 @@ fn is_less(value: &Value, best: &Option<Value>) -> bool
 }
 
 /// Whether a value is greater than the greatest one so far, or the first.
+#[inline(always)]
 fn is_greater(value: &Value, best: &Option<Value>) -> bool
     ensures { result ≡ replaces is_gt best.now value.now }
 {
@@ -130,12 +136,14 @@ fn is_greater(value: &Value, best: &Option<Value>) -> bool
     }
 }
 
+#[inline(always)]
 fn count_cell(alloc: Global, count: u64) -> Cell
     ensures { result ≡ (count_given count).cell }
 {
     Cell::one(alloc, Value::Long(i64::try_from(count).unwrap_or(i64::MAX)))
 }
 
+#[inline(always)]
 fn best_cell(alloc: Global, best: Option<Value>) -> Cell
     ensures { result ≡ option_to_list best }
 {
@@ -145,6 +153,7 @@ fn best_cell(alloc: Global, best: Option<Value>) -> Cell
     }
 }
 
+#[inline(always)]
 fn sum_cell(
     alloc: Global,
     node: NodeId,

@@ -22,6 +22,7 @@ impl LongSum {
         }
     }
 
+    #[inline(always)]
     pub(crate) fn add(&mut self, values: &[Value])
         ensures { self.new ≡ fold with_value self.old values.now }
     {
@@ -33,6 +34,7 @@ impl LongSum {
 }
 
 /// The number that a value is, 0 where it is none.
+#[inline(always)]
 fn number_of(value: &Value) -> i64
     ensures { result ≡ number_of value.now }
 {

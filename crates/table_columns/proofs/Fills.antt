@@ -1,15 +1,14 @@
 -- The cells of a whole row put at the ends of their columns.
 use Rattle.std.proofs.Common.{◌≡◌, ℕ, zero, suc, ◌+◌, ◌<◌, ◌≤◌, List, [], ◌∷◌, map, length, get_or, set, take, refl, sym, ap, ◌∙◌, inl, inr, subst, arith}
-use Rattle.std.specs.Prelude.{All}
-use Rattle.std.specs.List.{AllZip, range_with_len}
+use Rattle.std.specs.List.{range_with_len}
 use Rattle.std.proofs.lemmas.List.FromFn.{fill_by_all}
 use Rattle.esql_types.specs.declared.value.Kind.{Kind}
 use Rattle.esql_types.specs.declared.value.Value.{Value}
 use Rattle.col_blocks.specs.Cells.{IsOfKind}
 use Rattle.table_columns.specs.declared.growing.GrowingColumn.{GrowingColumn}
 use Rattle.table_columns.specs.Tables.{AreCells}
-use Rattle.table_columns.specs.Held.{Held, IsClosed, AreClosed, all_grown}
-use Rattle.table_columns.specs.Placing.{with_cell, with_filled, filled}
+use Rattle.table_columns.specs.Held.{Held, all_grown}
+use Rattle.table_columns.specs.Placing.{with_filled, filled}
 use Rattle.table_columns.proofs.Places.{IsPut}
 
 pub length-filled : (number : ℕ) (cells : List (List Value)) (columns : List GrowingColumn) → length (filled number cells columns) ≡ length columns

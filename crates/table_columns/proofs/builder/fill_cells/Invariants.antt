@@ -1,5 +1,4 @@
-use Rattle.std.proofs.Common.{◌≡◌, take, map}
-use Rattle.table_columns.specs.Held.{Held, AreClosed, all_grown}
+use Rattle.std.proofs.Common.{◌≡◌, take}
 use Rattle.table_columns.specs.Placing.{filled}
 use Rattle.table_columns.proofs.builder.fill_cells.Given as goal
 
